@@ -1,20 +1,16 @@
 -- The forms of words, as the program's code has them.
-use Rattle.std.specs.Prelude.{◌≡◌, ℕ, ◌<◌, ◌≤◌, true, List, length, map, Option, IfSome, String}
+use Rattle.std.specs.Prelude.{◌≡◌, ◌<◌, ◌≤◌, true, length, IfSome}
 use Rattle.std.specs.Option.{option_copied}
-use Rattle.std.specs.String.{string_bytes}
-use Rattle.std.specs.declared.alloc.Global.{Global}
 use Rattle.broker_app.specs.Words.{Form as Meaning, AuditCheck as Checks, Explain as Explains, Explore as Explores, Handover as Hands}
 use Rattle.broker_app.specs.Words.{Check as ChecksClaims, Compare as Compares, Judge as Judges, Lanes as RunsByLanes, Lint as Lints}
-use Rattle.broker_app.specs.Words.{Play as Plays, Pod as ServesPod, Run as Runs, Step as Steps, Stress as Stresses, are_pairs, in_pairs}
+use Rattle.broker_app.specs.Words.{Play as Plays, Pod as ServesPod, Run as Runs, Step as Steps, Stress as Stresses}
+use Rattle.play_words.specs.Handovers.{IsAfterSteps}
+use Rattle.run_words.specs.Pairs.{are_pairs, in_pairs, texts}
 use Rattle.broker_app.specs.declared.words.Form.{Form}
 use Rattle.broker_app.specs.declared.words.Form.TheVariants.{Job as IsJob, Lanes, Pod, Run}
 use Rattle.broker_app.specs.declared.words.Job.{Job}
-use Rattle.broker_app.specs.declared.words.Job.TheVariants.{AuditCheck, Check, Compare, Explain, Explore, Handover, Lint}
-use Rattle.broker_app.specs.declared.words.Job.TheVariants.{Judge, Play, Step, Stress}
-
--- the bytes of the words
-abbrev pub texts : List (String Global) → List (List ℕ)
-texts words = map (λ (w : String Global). string_bytes w) words
+use Rattle.broker_app.specs.declared.words.Job.TheVariants.{AuditCheck, Check, Compare, Explain, Explore, Handover, Lint, Judge, Play}
+use Rattle.broker_app.specs.declared.words.Job.TheVariants.{Step, Stress}
 
 -- the form of the words that ask for a job
 abbrev pub job_of : Job → Meaning
@@ -44,10 +40,6 @@ IsJobInRange (Stress from count) = count ≤ 4000
 IsJobInRange (Handover policy script every) = 0 < every
 IsJobInRange (Explore policy script workers delays) = workers ≤ 15
 IsJobInRange _ = Unit {0}
-
--- where workers are replaced, one is after one step at the earliest
-abbrev pub IsAfterSteps : Option ℕ → Type 0
-IsAfterSteps every = IfSome every (λ n. 0 < n)
 
 -- a run has at most 16 hands of either kind beside the calling one, and so has a pod, whose words name pairs of files
 abbrev pub IsInRange : Form → Type 0

@@ -1,46 +1,21 @@
 -- The exit status and the line on standard error, for each end.
 use Rattle.std.specs.Prelude.{ℕ, List, [], ◌++◌, codes, decimal}
-use Rattle.audit_log.specs.declared.error.ReportError.{ReportError}
-use Rattle.audit_log.specs.declared.error.ReportError.TheVariants.{WriteFault as CannotWrite, NoMemory as OutOfMemory}
 use Rattle.call_lines.specs.declared.error.CallsError.{CallsError}
 use Rattle.policy_reader.specs.declared.error.PolicyError.{PolicyError}
 use Rattle.policy_reader.specs.declared.error.PolicyError.TheVariants.{NotJson, BadKey, BadValue, TooMany}
 use Rattle.script_reader.specs.declared.error.ScriptError.{ScriptError}
 use Rattle.script_reader.specs.declared.error.ScriptError.TheVariants.{BadLine, TooLarge}
 use Rattle.step_session.specs.Reasons.{reason_text}
-use Rattle.broker_app.specs.declared.status.InputFile.{InputFile}
-use Rattle.broker_app.specs.declared.status.InputFile.TheVariants.{Policy as PolicyFile, Script as ScriptFile, Report as ReportFile}
-use Rattle.broker_app.specs.declared.status.InputFile.TheVariants.{Calls as CallsFile, Claims as ClaimsFile, NewPolicy as NewPolicyFile}
-use Rattle.broker_app.specs.declared.status.InputFile.TheVariants.{Requests as RequestsFile}
-use Rattle.broker_app.specs.declared.status.Refusal.{Refusal}
-use Rattle.broker_app.specs.declared.status.Refusal.TheVariants.{ReadFault, TooLong, BadPolicy, BadScript, BadCalls, HasRequests}
-use Rattle.broker_app.specs.declared.status.Refusal.TheVariants.{BadNewPolicy, BadClaims}
-use Rattle.broker_app.specs.declared.status.Status.{Status}
-use Rattle.broker_app.specs.declared.status.Status.TheVariants.{Done, Usage, Refused, ContainerRefused}
-use Rattle.broker_app.specs.declared.status.Status.TheVariants.{WriteFault, NoMemory, NotReport, PidsOverlap}
-use Rattle.broker_app.specs.declared.status.Status.TheVariants.{Otherwise, Undecided}
-
-abbrev pub code_of_refusal : Refusal → ℕ
-code_of_refusal (ReadFault file) = 2
-code_of_refusal (TooLong file) = 3
-code_of_refusal (BadPolicy error) = 4
-code_of_refusal (BadNewPolicy error) = 4
-code_of_refusal (BadClaims error) = 4
-code_of_refusal (BadScript error) = 5
-code_of_refusal (BadCalls error) = 5
-code_of_refusal HasRequests = 5
-
-abbrev pub code_of : Status → ℕ
-code_of Done = 0
-code_of Usage = 1
-code_of (Refused refusal) = code_of_refusal refusal
-code_of (ContainerRefused container refusal) = code_of_refusal refusal
-code_of WriteFault = 6
-code_of NoMemory = 7
-code_of (NotReport line) = 9
-code_of (PidsOverlap first second) = 10
-code_of Otherwise = 11
-code_of Undecided = 12
+use Rattle.program_files.specs.declared.status.InputFile.{InputFile}
+use Rattle.program_files.specs.declared.status.InputFile.TheVariants.{Policy as PolicyFile, Script as ScriptFile, Report as ReportFile}
+use Rattle.program_files.specs.declared.status.InputFile.TheVariants.{Calls as CallsFile, Claims as ClaimsFile}
+use Rattle.program_files.specs.declared.status.InputFile.TheVariants.{NewPolicy as NewPolicyFile, Requests as RequestsFile}
+use Rattle.program_files.specs.declared.status.Refusal.{Refusal}
+use Rattle.program_files.specs.declared.status.Refusal.TheVariants.{ReadFault, TooLong, BadPolicy, BadScript, BadCalls, HasRequests}
+use Rattle.program_files.specs.declared.status.Refusal.TheVariants.{BadNewPolicy, BadClaims}
+use Rattle.program_files.specs.declared.status.Status.{Status}
+use Rattle.program_files.specs.declared.status.Status.TheVariants.{Done, Usage, Refused, ContainerRefused, WriteFault, NoMemory}
+use Rattle.program_files.specs.declared.status.Status.TheVariants.{NotReport, PidsOverlap, Otherwise, Undecided}
 
 -- the name of a file in a line, with the byte that ends the line
 abbrev pub file_named : InputFile → List ℕ
@@ -106,7 +81,3 @@ line_of (NotReport line) = codes "report: line " ++ (decimal line ++ codes "\n")
 line_of (PidsOverlap first second) = overlap_line first second
 line_of Otherwise = []
 line_of Undecided = []
-
-abbrev pub status_of_report : ReportError → Status
-status_of_report CannotWrite = WriteFault
-status_of_report OutOfMemory = NoMemory

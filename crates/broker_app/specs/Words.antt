@@ -1,13 +1,8 @@
 -- The words with which the program is called, and the forms that they may have.
-use Rattle.std.specs.Prelude.{ℕ, ◌-◌, ◌^◌, ◌&&◌, ◌%◌, ◌==◌, Bool, if◌then◌else◌, nat_le, List, [], ◌∷◌, length, Option}
-use Rattle.std.specs.Prelude.{Some, None, bytes_eq, codes}
+use Rattle.std.specs.Prelude.{ℕ, ◌-◌, ◌^◌, if◌then◌else◌, List, [], ◌∷◌, length, Option, Some, None, bytes_eq, codes}
 use Rattle.std.specs.Option.{option_map}
 use Rattle.hist_model.specs.Words.{number_between}
-
--- the names of a policy's and a script's files
-pub record FilePair : Type 0 where
-  pub policy : List ℕ
-  pub script : List ℕ
+use Rattle.run_words.specs.Pairs.{FilePair, are_pairs, in_pairs}
 
 -- play a script, run it with threads or by lanes, play generated input, check a report, play a script with workers that are replaced, serve
 -- containers side by side, explore a script's histories, step a script as requests ask for, explain calls, compare two policies,
@@ -44,15 +39,6 @@ lanes_form policy script _ _ = None
 abbrev pub handover_form : List ℕ → List ℕ → Option ℕ → Option Form
 handover_form policy script (Some every) = Some (Handover policy script every)
 handover_form policy script None = None
-
--- the names of 1 to 8 pairs of files
-abbrev pub are_pairs : ℕ → Bool
-are_pairs count = nat_le 2 count && nat_le count 16 && (count % 2 == 0)
-
--- names, two and two
-abbrev pub in_pairs : List (List ℕ) → List FilePair
-in_pairs (policy ∷ script ∷ more) = record { policy = policy; script = script } ∷ in_pairs more
-in_pairs _ = []
 
 -- who serves: workers up to this one, or lanes; nothing where the word is neither
 abbrev pub servers_of : List ℕ → Option (Option ℕ)

@@ -5,11 +5,11 @@ ghost use Rattle.io_edge.specs.SinkState.{Writes};
 ghost use Rattle.broker_app.specs.Answers.{Said};
 ghost use Rattle.broker_app.specs.Lines.{calls_line, container_front, line_of, overlap_line, rules_line, refusal_line, script_line, numbered_line, file_named};
 
-use crate::status::{InputFile, Refusal, Status};
 use call_lines::CallsError;
 use io_edge::fault::Failed;
 use io_edge::sink::Sink;
 use policy_reader::PolicyError;
+use program_files::status::{InputFile, Refusal, Status};
 use script_reader::ScriptError;
 use step_session::reasons::reason_text;
 

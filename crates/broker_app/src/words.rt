@@ -2,9 +2,12 @@
 
 ghost use Rattle.std.specs.Prelude.{◌≡◌, ◌≤◌, ◌^◌, ◌-◌, map, IfSome};
 ghost use Rattle.std.specs.Option.{option_map};
-ghost use Rattle.broker_app.specs.Words.{run_form, lanes_form, are_pairs, every_of, pod_form, pod_words, handover_form, delays_of, servers_of, explore_form, stress_form, two_words, three_words, short_words, four_words, five_words, six_words, seven_words, more_words, few_words, form};
+ghost use Rattle.broker_app.specs.Words.{run_form, lanes_form, every_of, pod_form, pod_words, handover_form, delays_of, servers_of, explore_form, stress_form, two_words, three_words, short_words, four_words, five_words, six_words, seven_words, more_words, few_words, form};
+ghost use Rattle.run_words.specs.Pairs.{are_pairs};
 ghost use Rattle.hist_model.specs.Words.{number_between};
-ghost use Rattle.broker_app.specs.Forms.{IsAfterSteps, IsInRange, form_of, texts};
+ghost use Rattle.play_words.specs.Handovers.{IsAfterSteps};
+ghost use Rattle.run_words.specs.Pairs.{texts};
+ghost use Rattle.broker_app.specs.Forms.{IsInRange, form_of};
 
 use plain_words::number_between;
 

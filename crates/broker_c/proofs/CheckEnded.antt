@@ -6,11 +6,11 @@ use Rattle.io_edge.specs.FileState.{FileState}
 use Rattle.io_edge.specs.SinkState.{SinkState}
 use Rattle.hist_model.specs.declared.policy.Policy.{Policy}
 use Rattle.hist_model.specs.declared.script.Script.{Script}
-use Rattle.broker_app.specs.Checks.{AreChecked, BytesCheckEnds, CheckEnds, ReadCheckEnds, TookFindings, TookFindingsPrefix}
-use Rattle.broker_app.specs.declared.status.InputFile.TheVariants.{Report as ReportFile}
-use Rattle.broker_app.specs.declared.status.Refusal.TheVariants.{ReadFault, TooLong}
-use Rattle.broker_app.specs.declared.status.Status.{Status}
-use Rattle.broker_app.specs.declared.status.Status.TheVariants.{Done, Refused, WriteFault, NoMemory, NotReport}
+use Rattle.play_words.specs.Checks.{AreChecked, BytesCheckEnds, CheckEnds, ReadCheckEnds, TookFindings, TookFindingsPrefix}
+use Rattle.program_files.specs.declared.status.InputFile.TheVariants.{Report as ReportFile}
+use Rattle.program_files.specs.declared.status.Refusal.TheVariants.{ReadFault, TooLong}
+use Rattle.program_files.specs.declared.status.Status.{Status}
+use Rattle.program_files.specs.declared.status.Status.TheVariants.{Done, Refused, WriteFault, NoMemory, NotReport}
 use Rattle.broker_c.proofs.Inputs.{input_gives}
 use Rattle.broker_c.proofs.Prefixes.{adds_whole}
 use Rattle.broker_c.proofs.Settled.{by_room}

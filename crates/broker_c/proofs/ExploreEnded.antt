@@ -8,10 +8,10 @@ use Rattle.io_edge.specs.SinkState.{SinkState}
 use Rattle.hist_model.specs.declared.policy.Policy.{Policy}
 use Rattle.hist_model.specs.declared.script.Script.{Script}
 use Rattle.broker_app.specs.Answers.{Answers, IsUsage}
-use Rattle.broker_app.specs.Explorations.{AreExplored as AreFilesExplored, ExploreEnds, IsExploredText, TookExploredPrefix}
+use Rattle.explore_words.specs.Explorations.{AreExplored as AreFilesExplored, ExploreEnds, IsExploredText, TookExploredPrefix}
 use Rattle.broker_app.specs.Words.{Form, Explore}
-use Rattle.broker_app.specs.declared.status.Status.{Status}
-use Rattle.broker_app.specs.declared.status.Status.TheVariants.{Done, Usage, WriteFault, NoMemory}
+use Rattle.program_files.specs.declared.status.Status.{Status}
+use Rattle.program_files.specs.declared.status.Status.TheVariants.{Done, Usage, WriteFault, NoMemory}
 use Rattle.broker_c.proofs.Inputs.{input_gives}
 use Rattle.broker_c.proofs.Prefixes.{adds_whole}
 use Rattle.broker_c.proofs.Settled.{by_room}

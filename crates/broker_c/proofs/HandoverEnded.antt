@@ -6,11 +6,11 @@ use Rattle.std.proofs.lemmas.Bool.{ltb-true}
 use Rattle.io_edge.specs.FileState.{FileState}
 use Rattle.io_edge.specs.SinkState.{SinkState}
 use Rattle.broker_app.specs.Answers.{Answers, IsUsage}
-use Rattle.broker_app.specs.Handovers.{HandoverEnds, with_ledgers}
+use Rattle.play_words.specs.Handovers.{HandoverEnds, with_ledgers}
 use Rattle.broker_app.specs.Words.{Form, Handover}
-use Rattle.broker_app.specs.declared.status.Status.{Status}
-use Rattle.broker_app.specs.declared.status.Status.TheVariants.{Usage, NoMemory, Refused}
-use Rattle.broker_app.specs.declared.status.Refusal.TheVariants.{HasRequests}
+use Rattle.program_files.specs.declared.status.Status.{Status}
+use Rattle.program_files.specs.declared.status.Status.TheVariants.{Usage, NoMemory, Refused}
+use Rattle.program_files.specs.declared.status.Refusal.TheVariants.{HasRequests}
 use Rattle.broker_c.proofs.PlayEnded.{ended_gives}
 use Rattle.broker_c.proofs.Ranges.{in_range, out_of_range}
 use Rattle.broker_c.specs.Given.{files_of}

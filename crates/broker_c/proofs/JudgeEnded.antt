@@ -9,11 +9,11 @@ use Rattle.judge_pass.specs.Finding.{Finding, finding}
 use Rattle.policy_classes.specs.declared.ending.Ending.{Ending}
 use Rattle.policy_classes.specs.declared.ending.Ending.TheVariants.{Alike, Otherwise, Undecided}
 use Rattle.policy_classes.specs.declared.ending.Told.{Told}
-use Rattle.broker_app.specs.Judgements.{IsToldOf, JudgeEnds, TellsOfBroker, judged_history}
-use Rattle.broker_app.specs.Tellings.{TookPrefixOf, status_of_ending}
-use Rattle.broker_app.specs.declared.status.Status.{Status}
-use Rattle.broker_app.specs.declared.status.Status.TheVariants.{Done, Refused, WriteFault, NoMemory}
-use Rattle.broker_app.specs.declared.status.Status.TheVariants.{Otherwise as IsOtherwise}
+use Rattle.step_words.specs.Judgements.{IsToldOf, JudgeEnds, TellsOfBroker, judged_history}
+use Rattle.policy_words.specs.Tellings.{TookPrefixOf, status_of_ending}
+use Rattle.program_files.specs.declared.status.Status.{Status}
+use Rattle.program_files.specs.declared.status.Status.TheVariants.{Done, Refused, WriteFault, NoMemory}
+use Rattle.program_files.specs.declared.status.Status.TheVariants.{Otherwise as IsOtherwise}
 use Rattle.broker_c.proofs.Inputs.{input_gives}
 use Rattle.broker_c.proofs.Prefixes.{adds_whole}
 use Rattle.broker_c.proofs.Settled.{by_room}

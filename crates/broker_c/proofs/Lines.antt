@@ -6,8 +6,8 @@ use Rattle.std.proofs.lemmas.Bool.{ltb-false}
 use Rattle.io_edge.specs.SinkState.{SinkState}
 use Rattle.broker_app.specs.Answers.{Said}
 use Rattle.broker_app.specs.Lines.{line_of}
-use Rattle.broker_app.specs.declared.status.Status.{Status}
-use Rattle.broker_app.specs.declared.status.Status.TheVariants.{WriteFault, NoMemory}
+use Rattle.program_files.specs.declared.status.Status.{Status}
+use Rattle.program_files.specs.declared.status.Status.TheVariants.{WriteFault, NoMemory}
 use Rattle.broker_c.specs.Held.{empty_sink}
 use Rattle.broker_c.specs.Outcomes.{Says, settled}
 

@@ -6,9 +6,9 @@ use Rattle.io_edge.specs.FileState.{FileState}
 use Rattle.io_edge.specs.SinkState.{SinkState}
 use Rattle.hist_model.specs.declared.policy.Policy.{Policy}
 use Rattle.script_reader.specs.declared.file.ScriptFile.{ScriptFile}
-use Rattle.broker_app.specs.Plays.{AreRead, PlayEnds, Printing, TookPlayPrefix}
-use Rattle.broker_app.specs.declared.status.Status.{Status}
-use Rattle.broker_app.specs.declared.status.Status.TheVariants.{Done, WriteFault, NoMemory}
+use Rattle.play_words.specs.Printings.{AreRead, PlayEnds, Printing, TookPlayPrefix}
+use Rattle.program_files.specs.declared.status.Status.{Status}
+use Rattle.program_files.specs.declared.status.Status.TheVariants.{Done, WriteFault, NoMemory}
 use Rattle.broker_c.proofs.Inputs.{input_gives}
 use Rattle.broker_c.proofs.Prefixes.{adds_whole}
 use Rattle.broker_c.proofs.Settled.{by_room}

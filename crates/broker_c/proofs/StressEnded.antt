@@ -6,9 +6,10 @@ use Rattle.std.proofs.lemmas.Bool.{ltb-true, ltb-false}
 use Rattle.io_edge.specs.FileState.{FileState}
 use Rattle.io_edge.specs.SinkState.{SinkState}
 use Rattle.broker_app.specs.Words.{Form, Stress}
-use Rattle.broker_app.specs.Answers.{Answers, IsUsage, StressEnds}
-use Rattle.broker_app.specs.declared.status.Status.{Status}
-use Rattle.broker_app.specs.declared.status.Status.TheVariants.{Done, Usage, WriteFault, NoMemory}
+use Rattle.broker_app.specs.Answers.{Answers, IsUsage}
+use Rattle.play_words.specs.Generated.{StressEnds}
+use Rattle.program_files.specs.declared.status.Status.{Status}
+use Rattle.program_files.specs.declared.status.Status.TheVariants.{Done, Usage, WriteFault, NoMemory}
 use Rattle.broker_c.proofs.Prefixes.{adds_whole}
 use Rattle.broker_c.proofs.Ranges.{in_range, out_of_range}
 use Rattle.broker_c.specs.Held.{empty_sink}

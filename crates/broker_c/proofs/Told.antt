@@ -5,11 +5,11 @@ use Rattle.std.specs.Prelude.{nat_lt}
 use Rattle.std.proofs.lemmas.Bool.{ltb-false}
 use Rattle.std.proofs.lemmas.List.{take_all}
 use Rattle.std.proofs.lemmas.Grind.{common_steps}
-use Rattle.broker_app.specs.Handovers.{with_ledgers}
-use Rattle.broker_app.specs.Plays.{Printing}
-use Rattle.broker_app.specs.declared.status.Refusal.TheVariants.{ReadFault}
-use Rattle.broker_app.specs.declared.status.Status.{Status}
-use Rattle.broker_app.specs.declared.status.Status.TheVariants.{Done, ContainerRefused, Otherwise, Refused}
+use Rattle.play_words.specs.Handovers.{with_ledgers}
+use Rattle.play_words.specs.Printings.{Printing}
+use Rattle.program_files.specs.declared.status.Refusal.TheVariants.{ReadFault}
+use Rattle.program_files.specs.declared.status.Status.{Status}
+use Rattle.program_files.specs.declared.status.Status.TheVariants.{Done, ContainerRefused, Otherwise, Refused}
 use Rattle.policy_classes.specs.declared.ending.Ending.TheVariants.{Alike, Otherwise as EndsOtherwise}
 use Rattle.broker_c.specs.Buffers.{Holds, number_of}
 use Rattle.broker_c.specs.Outcomes.{CheckGives, ExploreGives, HandoverGives, IsAskedExploration, IsFindings, IsHandover, IsJudgement, IsPlay, IsSummary, JudgeGives, PlayGives, StressGives}

@@ -1,8 +1,9 @@
 -- What a caller's buffers and numbers have after a call.
 use Rattle.std.specs.Prelude.{◌≡◌, ℕ, ◌++◌, List, length, take, drop, nat_lt, if◌then◌else◌}
-use Rattle.broker_app.specs.Lines.{code_of, line_of}
-use Rattle.broker_app.specs.declared.status.Status.{Status}
-use Rattle.broker_app.specs.declared.status.Status.TheVariants.{Done, Otherwise}
+use Rattle.program_files.specs.Codes.{code_of}
+use Rattle.broker_app.specs.Lines.{line_of}
+use Rattle.program_files.specs.declared.status.Status.{Status}
+use Rattle.program_files.specs.declared.status.Status.TheVariants.{Done, Otherwise}
 
 -- the number that says that what was printed whole doesn't fit into its buffer
 abbrev pub short_buffer : ℕ

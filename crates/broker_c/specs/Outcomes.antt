@@ -15,21 +15,22 @@ use Rattle.policy_reader.specs.declared.error.PolicyError.{PolicyError}
 use Rattle.script_reader.specs.Scripts.{script as script_of, script_file}
 use Rattle.script_reader.specs.declared.error.ScriptError.{ScriptError}
 use Rattle.script_reader.specs.declared.file.ScriptFile.{ScriptFile}
-use Rattle.broker_app.specs.Answers.{GeneratedIsMediated, generated_summary}
-use Rattle.broker_app.specs.Checks.{IsFound, IsNotFound}
-use Rattle.broker_app.specs.Explorations.{ExploredLaws, IsExploredText}
-use Rattle.broker_app.specs.Findings.{findings}
-use Rattle.broker_app.specs.Handovers.{with_ledgers}
-use Rattle.broker_app.specs.Inputs.{ReadsAs, policy_limit, report_limit, script_limit}
-use Rattle.broker_app.specs.Judgements.{IsToldOf, judged_history}
+use Rattle.play_words.specs.Generated.{GeneratedIsMediated, generated_summary}
+use Rattle.play_words.specs.Checks.{IsFound, IsNotFound}
+use Rattle.explore_words.specs.Explorations.{ExploredLaws, IsExploredText}
+use Rattle.play_words.specs.Findings.{findings}
+use Rattle.play_words.specs.Handovers.{with_ledgers}
+use Rattle.program_files.specs.Inputs.{ReadsAs, policy_limit, report_limit, script_limit}
+use Rattle.step_words.specs.Judgements.{IsToldOf, judged_history}
 use Rattle.broker_app.specs.Lines.{line_of}
-use Rattle.broker_app.specs.Plays.{Printing, as_report}
+use Rattle.play_words.specs.Printings.{Printing}
+use Rattle.step_words.specs.Plays.{as_report}
 use Rattle.broker_app.specs.Words.{Form, Explore}
-use Rattle.broker_app.specs.declared.status.InputFile.TheVariants.{Policy as PolicyFile, Script as ScriptsFile, Report as ReportFile}
-use Rattle.broker_app.specs.declared.status.Refusal.TheVariants.{TooLong, BadPolicy, BadScript, HasRequests}
-use Rattle.broker_app.specs.declared.status.Status.{Status}
-use Rattle.broker_app.specs.declared.status.Status.TheVariants.{Done, Usage, Refused, WriteFault, NoMemory, NotReport}
-use Rattle.broker_app.specs.declared.status.Status.TheVariants.{Otherwise as IsOtherwise}
+use Rattle.program_files.specs.declared.status.InputFile.TheVariants.{Policy as PolicyFile, Script as ScriptsFile, Report as ReportFile}
+use Rattle.program_files.specs.declared.status.Refusal.TheVariants.{TooLong, BadPolicy, BadScript, HasRequests}
+use Rattle.program_files.specs.declared.status.Status.{Status}
+use Rattle.program_files.specs.declared.status.Status.TheVariants.{Done, Usage, Refused, WriteFault, NoMemory, NotReport}
+use Rattle.program_files.specs.declared.status.Status.TheVariants.{Otherwise as IsOtherwise}
 
 -- ---- What was read
 

@@ -2,13 +2,13 @@
 
 ghost use Rattle.std.specs.Prelude.{◌≡◌, length, min, take};
 ghost use Rattle.broker_app.specs.Lines.{line_of};
-ghost use Rattle.broker_app.specs.Plays.{as_report};
+ghost use Rattle.step_words.specs.Plays.{as_report};
 ghost use Rattle.policy_classes.specs.declared.ending.Ending.TheVariants.{Alike, Otherwise};
 ghost use Rattle.broker_c.specs.Buffers.{Holds, Tells, number_of};
 ghost use Rattle.broker_c.specs.Outcomes.{CheckGives, ExploreGives, HandoverGives, IsAskedExploration, IsFindings, IsHandover, IsJudgement, IsReport, IsSummary, JudgeGives, PlayGives, Says, StressGives};
 
 use crate::outcome::{Outcome, check, explore, judge, play, play_handing, stress};
-use broker_app::status::Status;
+use program_files::status::Status;
 use std::alloc::Global;
 
 /// How many bytes a report may have at most, whatever the caller asks for.

@@ -6,17 +6,17 @@ ghost use Rattle.broker_app.specs.Words.{Explore, Handover, Stress};
 ghost use Rattle.broker_app.specs.Answers.{Said};
 ghost use Rattle.broker_app.specs.Forms.{IsJobInRange, job_of};
 ghost use Rattle.broker_app.specs.Lines.{line_of};
-ghost use Rattle.broker_app.specs.Plays.{as_report};
+ghost use Rattle.step_words.specs.Plays.{as_report};
 ghost use Rattle.broker_c.specs.Held.{empty_sink};
 ghost use Rattle.broker_c.specs.Outcomes.{CheckGives, ExploreGives, HandoverGives, JudgeGives, PlayGives, Says, StressGives, bound_meant, explore_asked, settled};
 
 use crate::given::{GivenFiles, POLICY, REPORT, SCRIPT};
 use crate::held::HeldBytes;
 use broker_app::broker::carry_out;
-use broker_app::players::LoneThread;
-use broker_app::status::Status;
 use broker_app::words::Job;
 use io_edge::sink::Sink;
+use play_words::players::LoneThread;
+use program_files::status::Status;
 use std::alloc::Global;
 
 /// The number of delays that means all of them.

@@ -2,8 +2,8 @@
 
 use crate::inputs::MAKES_NODES;
 use crate::top_call::{Given, run, sound};
-use broker_app::status::{InputFile, Refusal, Status};
 use crew::OpenGate;
+use program_files::status::{InputFile, Refusal, Status};
 use std::alloc::Global;
 use std::process::Abort;
 use std::sync::Wait;

@@ -3,8 +3,8 @@
 use crate::inputs::{MAKES_NODES, TWO_NODES};
 use crate::top_call::{run, sound};
 use crate::waiting::wait_for;
-use broker_app::status::Status;
 use crew::{Gate, OpenGate, Point};
+use program_files::status::Status;
 use std::alloc::Global;
 use std::process::Abort;
 use std::sync::Wait;

@@ -1,9 +1,9 @@
 //! The top call over files and sinks in memory.
 
 use broker_app::broker::broker;
-use broker_app::status::Status;
 use crew::Gate;
 use io_edge::memory::{MemFiles, MemSink};
+use program_files::status::Status;
 use std::alloc::Global;
 use std::sync::Wait;
 use std::test::Fail;

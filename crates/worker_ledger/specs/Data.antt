@@ -22,4 +22,5 @@ answers_data (a ∷ own) = item (answer_data a) (answers_data own)
 
 abbrev pub ledger_data : ℕ → ℕ → List Answer → Data
 ledger_data worker count own =
-    object (member (codes "count") (number (unsigned count)) (member (codes "own") (array (answers_data own)) (member (codes "worker") (number (unsigned worker)) no_members)))
+    object (member (codes "count") (number (unsigned count)) (member (codes "own") (array (answers_data own))
+    (member (codes "worker") (number (unsigned worker)) no_members)))

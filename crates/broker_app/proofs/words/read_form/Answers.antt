@@ -1,6 +1,6 @@
 -- Fewer words than those of a pod are two at most.
 use Rattle.std.proofs.Common.{◌∙◌}
-use Rattle.broker_app.proofs.Containers.{few_form}
+use Rattle.broker_app.proofs.ShortForms.{few_form}
 use Rattle.broker_app.proofs.words.read_form.Goals as goal
 
 pub returns-clause-meant : goal.returns-clause-meant

@@ -1,4 +1,4 @@
-use Rattle.broker_app.specs.Plays.{as_report}
+use Rattle.step_words.specs.Plays.{as_report}
 use Rattle.broker_c.proofs.Told.{play_told}
 use Rattle.broker_c.proofs.calls.broker_play.Goals as goal
 

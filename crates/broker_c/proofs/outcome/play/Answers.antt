@@ -1,4 +1,4 @@
-use Rattle.broker_app.specs.Plays.{as_report}
+use Rattle.step_words.specs.Plays.{as_report}
 use Rattle.broker_c.proofs.PlayEnded.{play_gives}
 use Rattle.broker_c.specs.Given.{files_at}
 use Rattle.broker_c.specs.Held.{holding}

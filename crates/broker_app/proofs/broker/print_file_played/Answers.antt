@@ -1,5 +1,0 @@
--- The lines of a schedule with requests keep what their player asks for.
-use Rattle.broker_app.proofs.broker.print_file_played.Goals as goal
-
-pub print_turned-requires-clause-apart : goal.print_turned-requires-clause-apart
-print_turned-requires-clause-apart g c = rw c.items-2.ensures c.requires.apart

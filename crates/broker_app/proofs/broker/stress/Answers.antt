@@ -1,7 +1,0 @@
-use Rattle.broker_app.proofs.Ends.{stress_ends}
-use Rattle.broker_app.proofs.broker.stress.Goals as goal
-
-pub returns : goal.returns
-returns g c =
-    stress_ends c.args.from c.args.count (g.O.Sink.state c.args.out.now) (g.O.Sink.state c.print_generated.new.out)
-    c.print_generated.result c.generated_is_mediated.ensures c.print_generated.ensures

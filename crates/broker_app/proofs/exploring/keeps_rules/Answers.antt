@@ -1,7 +1,0 @@
-use Rattle.std.proofs.Common.{subst}
-use Rattle.hist_model.specs.Records.{ScriptRecord}
-use Rattle.hist_model.specs.ScriptRules.{IsScript}
-use Rattle.broker_app.proofs.exploring.keeps_rules.Goals as goal
-
-pub returns : goal.returns
-returns c = subst (λ (s : ScriptRecord). IsScript s) c.script.view_is c.script.invariant

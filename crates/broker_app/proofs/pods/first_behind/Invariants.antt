@@ -1,5 +1,0 @@
-use Rattle.broker_app.specs.Pods.{IsSeparateBehind}
-use Rattle.broker_app.proofs.pods.first_behind.Given as goal
-
-abbrev pub invariant-loop-second : goal.invariant-loop-second
-invariant-loop-second l = IsSeparateBehind l.containers l.first l.second

@@ -1,5 +1,0 @@
-use Rattle.broker_app.specs.Pods.{AreSeparate}
-use Rattle.broker_app.proofs.pods.first_overlap.Given as goal
-
-abbrev pub invariant-loop-first : goal.invariant-loop-first
-invariant-loop-first l = AreSeparate l.containers l.first

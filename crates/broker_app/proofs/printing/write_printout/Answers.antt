@@ -1,4 +1,0 @@
-use Rattle.broker_app.proofs.printing.write_printout.Goals as goal
-
-pub returns-in-Findings : goal.returns-in-Findings
-returns-in-Findings g c = rw c.in-Findings.is c.write_findings.ensures

@@ -1,0 +1,2 @@
+pub mod ComesTo
+pub mod Explored

@@ -1,0 +1,2 @@
+pub mod ExplainEnds
+pub mod Tellings

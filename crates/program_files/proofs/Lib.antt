@@ -1,0 +1,3 @@
+pub mod Items
+pub mod Printing
+pub mod Reading

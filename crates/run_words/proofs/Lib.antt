@@ -1,0 +1,4 @@
+pub mod Containers
+pub mod Overlaps
+pub mod PodTexts
+pub mod Runs

@@ -1,0 +1,4 @@
+pub mod Pairs
+pub mod PodText
+pub mod Pods
+pub mod Runs
