@@ -3,7 +3,7 @@ import re
 from typing import NamedTuple
 
 FENCE = re.compile(r"\s*(```+|~~~+)")
-GENERATED, END = re.compile(r"<!-- from .* -->"), re.compile(r"<!-- end\b.* -->")
+GENERATED, END = re.compile(r"<!-- (?:from|begin of) .* -->"), re.compile(r"<!-- end\b.* -->")
 ITEM = re.compile(r"\s*(?:[-*+]|\d+[.)])\s+")
 RULE = re.compile(r"\|[\s|:-]+\|")
 IMAGE = re.compile(r"!\[[^\]]*\]\([^)]*\)")
