@@ -7,9 +7,8 @@ WITHOUT_RIGHTS = (*ACLS, CAPABILITY, b"security.selinux")
 NAMESPACES = (b"user.", b"trusted.", b"security.", *ACLS)
 BARE = (b"user.", b"trusted.", b"security.")
 MOST_OF_A_VALUE = 65536
+LARGE = 1000  # from so many bytes on a file system may have no room for it
 NO_NAMESPACE = ("ENOTSUP", "EOPNOTSUPP")
-# the errors of a name or a value that isn't set
-REFUSED = ("EPERM", "EACCES", "EINVAL", "ERANGE", "ENOSPC", *NO_NAMESPACE)
 
 
 def is_refused_for_its_name(name, error):
@@ -20,8 +19,8 @@ def is_refused_for_its_name(name, error):
     }.get(error, False)
 
 
-def is_refused_for_its_value(name, error):
-    """Whether Linux may answer this error for the value, or for what stands behind `trusted.` and `security.`."""
+def is_refused_for_its_value(name, error, size):
+    """Whether Linux may answer this error for the value, of so many bytes, or for what stands behind `trusted.` and `security.`."""
     return {
-        "EINVAL": name in (*BARE[1:], *ACLS, CAPABILITY), "EACCES": name == ACLS[1], "ENOSPC": True, **dict.fromkeys(NO_NAMESPACE, name in ACLS),
+        "EINVAL": name in (*BARE[1:], *ACLS, CAPABILITY), "EACCES": name == ACLS[1], "ENOSPC": size >= LARGE, **dict.fromkeys(NO_NAMESPACE, name in ACLS),
     }.get(error, False)

@@ -5,7 +5,7 @@ import traceback
 from dataclasses import dataclass, field
 from typing import NamedTuple
 
-from on_linux import apart, journal, machine, script_text
+from on_linux import apart, journal, machine, scenes, script_text
 from on_linux.machine import Stop
 from on_linux.play import Difference, Play
 from on_linux.stage import Stage
@@ -13,6 +13,7 @@ from on_linux.stage import Stage
 # A process with priority may not have its processor for a whole second: then those without run, which are to stand still.
 SECONDS_WITH_PRIORITY = 0.8
 LIMIT_SECONDS = 10
+MOST_EVENTS = 20_000  # more can't be made in that time
 
 
 @dataclass
@@ -71,9 +72,12 @@ def compare(bench, policy, script, change=None, as_init=False):
     if status:
         return Result(refused=line.splitlines()[-1] if line else f"status {status}")
     lines = journal.journal(report)
+    if len(lines) > MOST_EVENTS:
+        return Result(stopped=f"more than {MOST_EVENTS} events", journal=lines)
+    steps = scenes.steps(policy, script)
     lines = change(lines) if change else lines
     begun = time.monotonic()
-    told = compare_there(bench, script_text.settings(script), list(map(journal.event, lines)), as_init)
+    told = compare_there(bench, script_text.settings(script), list(map(journal.event, lines)), steps, as_init)
     time.sleep(0.005 + (time.monotonic() - begun) / 8)  # the processor is left to others for a while
     differences = [Difference(*difference) for difference in told.pop("differences")]
     return Result(differences=differences, journal=lines, **told)
@@ -88,18 +92,18 @@ def is_readable(script):
         return False
 
 
-def compare_there(bench, settings, events, as_init):
+def compare_there(bench, settings, events, steps, as_init):
     """Compares in namespaces of its own."""
     try:
-        told = apart.in_namespaces(lambda: compare_here(bench, settings, events, as_init), LIMIT_SECONDS)
+        told = apart.in_namespaces(lambda: compare_here(bench, settings, events, steps, as_init), LIMIT_SECONDS)
     except TimeoutError:
         return dict(differences=[], compared=0, stopped="it took too long")
     return told or dict(differences=[], compared=0, stopped="the process that compares ended")
 
 
-def compare_here(bench, settings, events, as_init):
+def compare_here(bench, settings, events, steps, as_init):
     stage = Stage(settings, bench.stand_in, bench.room, bench.processor, as_init)
-    play, stopped = Play(stage, events), ""
+    play, stopped = Play(stage, events, steps), ""
     try:
         stage.build(journal.workers(events))
         machine.run_first(0, 50)

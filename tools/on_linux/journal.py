@@ -21,6 +21,10 @@ def journal(report):
     return lines[1:int(lines[0].split()[1]) + 1]
 
 
+HANDS = 16  # behind the numbers of workers
+
+
 def workers(events):
-    """The numbers of the workers that step."""
-    return {int(event.actor[1:]) for event in events if event.actor[0] == "w"}
+    """The numbers of the workers that step, and of those that make their requests for descriptors, which may have to wait."""
+    steps = [(int(event.actor[1:]), event.what) for event in events if event.actor[0] == "w"]
+    return {number for number, _ in steps} | {HANDS + number for number, what in steps if what == "addfd-put"}

@@ -1,21 +1,29 @@
 """Which of the known differences one is: the names are those of differences.json.
 
-The rules are narrow: they look at the call, its arguments and both answers, so that another difference isn't taken for a known one.
+A difference has a name only if both answers and its cause are there: the answer of the written kernel is the one that the script's step has to have, Linux's
+is one that the cause gives, and the cause is present in this very step. So another difference isn't taken for a known one.
 """
 from typing import NamedTuple
 
 from on_linux import attributes
-from on_linux.machine import CALLS, KINDS
+from on_linux.machine import CALLS, KINDS, SET_NUMBER, error_name
+from on_linux.scenes import Step
+from stepping import filters
 
-WALK = ("ENOENT", "ENOTDIR", "ELOOP", "ENAMETOOLONG", "EFAULT")
-TEXTS = ("EFAULT", "ENAMETOOLONG", "ERANGE")
-OF_PROBES = (335, 336)
-FIRST_FLAGS = 15  # read-only, and no set-user-id, devices and programs
+WALK = ("ENOENT", "ENOTDIR", "ELOOP", "ENAMETOOLONG")
+OF_PROBES = {335: "dead", 336: "ENXIO"}
+# unbindable, private, slave, shared; remount, bind, move; no user, and the bits above
+PROPAGATION = 0xF << 17
+OTHER_MOUNTS = 0x20 | 0x1000 | 0x2000 | PROPAGATION | 2**64 - 2**31
+MAGIC, OF_MAGIC = 0xC0ED0000, 0xFFFF0000
 END_OF_ADDRESSES = 2**47
-INSTRUCTION_POINTER = ((0x20, 0, 0, 8), (0x20, 0, 0, 12))
+MOST_DESCRIPTORS = 1048576
+SYSINFO = 112
 O_CREAT = 0o100
 # the flags of openat for which it has this error of its own: O_CREAT with O_EXCL, O_CREAT or access to write, O_DIRECTORY, O_NOFOLLOW
 OPENING = {"EEXIST": 0o300, "EISDIR": 0o103, "ENOTDIR": 0o200000, "ELOOP": 0o400000}
+RESTARTS = ("E512", "E513", "E514", "E516")
+NAMES = {number: name for name, number in CALLS.items()}
 
 
 class Known(NamedTuple):
@@ -23,131 +31,251 @@ class Known(NamedTuple):
     apart: bool = False  # the two kernels differ from here on, and what follows isn't compared
 
 
-def slash_at_the_end(path):
-    return path.endswith(b"/") and path.strip(b"/") != b""
+class Place(NamedTuple):
+    """What is so in the play on Linux, beside the facts of the step."""
+
+    instruction_pointer: int = 0
+    as_init: bool = False  # the first task is PID 1
+    is_init: bool = False  # and it is the one that steps
+    is_orphan: bool = False  # the step is about a task whose parent has ended
 
 
-def of_path(path, done, play):
-    """Of a walk. `done` says whether one of the two did the call."""
-    if b".." in path.split(b"/") and play.mounted:
+def find(line: str, what: str, linux: str, here: str, step: Step, place: Place) -> "Known | None":
+    """The known difference of a step, or None; `what` says what was compared. None too if the journal has another line than the step has to have."""
+    if line != step.line:
+        return None
+    rule = next((rule for begin, rule in RULES.items() if what.startswith(begin)), None)
+    return rule(linux, here, step, place) if rule else None
+
+
+# ---- walks
+
+def of_path(linux, here, step, place):
+    walked, done = step.walked, any(answer == "ok" or answer.isdigit() for answer in (linux, here))
+    if walked.onto_mount and (linux.isdigit() or linux in (*WALK, "ok", "EEXIST", "EPERM", "EBUSY")):
         return Known("dot-dot-under-mount", True)
-    if slash_at_the_end(path) or play.links_with_slash:
+    if walked.slash and linux in ("ENOENT", "ENOTDIR"):
         return Known("trailing-slash", done)
     return None
 
 
-def of_mount(arguments, linux, here):
-    if linux == "EPERM" and here in ("EFAULT", "EINVAL") and arguments[4]:
+# ---- native calls
+
+def of_native(linux, here, step, place):
+    number, arguments = step.call
+    if number in OF_PROBES:
+        return Known("calls-no-filter-sees", True) if linux == OF_PROBES[number] else None
+    if is_seen_otherwise(linux, step, place):
+        return Known("instruction-pointer", True)
+    if step.is_torn and linux not in ("notify", "dead"):
+        return Known("sysinfo-part", True)
+    if number not in NAMES:
+        return Known("other-calls", linux == "dead") if here == "ENOSYS" and linux != "notify" else None
+    name = NAMES[number]
+    found = OF_CALLS[name](arguments, linux, here, step) if name in OF_CALLS else None
+    if name in ("openat", "mknodat") and (linux, here) == ("ENOTDIR", "EBADF") and step.is_other_node:
+        found = Known("dirfd-not-a-directory")
+    return found or of_path(linux, here, step, place)
+
+
+def of_mount(arguments, linux, here, step):
+    of_data = step.error_of(3)
+    if linux == "EPERM" and here == of_data and step.errors == {of_data} and of_data in ("EFAULT", "EINVAL"):
         return Known("mount-data")
-    refused = here == "EPERM" and linux in WALK
-    if refused or here in ("EFAULT", "ENAMETOOLONG", "EINVAL") and linux in (*WALK, "EINVAL"):
-        return Known("native-mount")
-    return None
+    causes = {"EPERM", *step.errors, step.walked.error}
+    return Known("native-mount") if linux in causes and here in causes else None
 
 
-def of_setxattr(arguments, name, linux, here):
-    if here in TEXTS and linux in (*TEXTS, "EINVAL", "E2BIG"):
-        return Known("setxattr-order")
-    if here == "E2BIG" and arguments[3] > attributes.MOST_OF_A_VALUE:
-        return Known("setxattr-order") if linux in (*TEXTS, "EINVAL") else None
-    if here == "E2BIG" and arguments[3] > 4096:
+def of_setxattr(arguments, linux, here, step):
+    size, is_named = arguments[3], not step.error_of(1)
+    name = step.texts[1] if is_named else b""
+    causes = {*step.errors, step.walked.error} - {""} | ({"EINVAL"} if arguments[4] & 0xFFFFFFFC else set())
+    if here == "E2BIG" and 4096 < size <= attributes.MOST_OF_A_VALUE and linux in ("0", "ENOSPC"):
         return Known("attribute-size", linux == "0")
-    if here == "EPERM" and linux == "0":
+    if (linux, here) == ("0", "EPERM"):
         return Known("attribute-without-rights", True) if name in attributes.WITHOUT_RIGHTS else None
-    bad_flags = here == "EINVAL" and arguments[4] & 0xFFFFFFFC
-    if (here == "EPERM" and not name.startswith(b"user.") or bad_flags) and linux in (*WALK, *attributes.REFUSED, "E2BIG"):
-        return Known("setxattr-order")
-    return of_attribute(name, linux, here, "0")
+    causes |= {"EPERM"} if is_named and not name.startswith(b"user.") else set()
+    refused = is_named and (attributes.is_refused_for_its_name(name, linux) or attributes.is_refused_for_its_value(name, linux, size))
+    if here in causes and (linux in causes or refused):
+        return Known("attribute-size" if here == "E2BIG" and size <= attributes.MOST_OF_A_VALUE and linux not in step.errors else "setxattr-order")
+    return of_attribute(name, size, linux, here, "0", step) if is_named else None
 
 
-def of_attribute(name, linux, here, done):
+def of_attribute(name, size, linux, here, done, step):
     """Of an attribute that Linux refuses to set for its name or its value. `done` is the answer of one that was set."""
-    if not (here == done or here in ("EEXIST", "ENODATA") or linux == "ERANGE" and here in WALK):
+    if here not in (done, "EEXIST", "ENODATA", *WALK):
         return None
-    if attributes.is_refused_for_its_name(name, linux):
+    is_special = step.walked.kind not in ("reg", "dir")
+    if attributes.is_refused_for_its_name(name, linux) and (linux != "EPERM" or is_special) and (here not in WALK or linux == "ERANGE"):
         return Known("attribute-names", here == done)
-    return Known("attribute-values", True) if attributes.is_refused_for_its_value(name, linux) and here == done else None
+    return Known("attribute-values", True) if here == done and attributes.is_refused_for_its_value(name, linux, size) else None
 
 
-def of_mknod(arguments, linux, here):
+def of_mknod(arguments, linux, here, step):
     """Of mknod, or of mknodat without its first argument."""
     mode, device = arguments[1] & 0o170000, arguments[2] & 0xFFFFFFFF
     if (linux, here, mode, device) == ("0", "EPERM", KINDS["chr"], 0):
         return Known("whiteout-device", True)
-    if linux in ("EPERM", "EINVAL") and here in ("EFAULT", "ENAMETOOLONG", "ENOENT"):
-        return Known("mknod-kind-first")
-    return None
+    is_node = mode == 0 or mode in (KINDS[kind] for kind in ("reg", "chr", "blk", "fifo", "sock"))
+    of_kind = "EPERM" if mode == KINDS["dir"] else "" if is_node else "EINVAL"
+    return Known("mknod-kind-first") if linux == of_kind and here == step.error_of(0) != "" else None
 
 
-def of_openat(flags, linux, here):
+def of_openat(arguments, linux, here, step):
+    flags = arguments[2]
     if linux == "EMFILE":
-        return Known("openat-full-table")
+        return Known("openat-full-table") if step.is_full and here in (*WALK, "EBADF") else None
     fails, makes = here.isdigit() and flags & OPENING.get(linux, 0), here == "ENOENT" and linux.isdigit() and flags & O_CREAT
     return Known("openat-only-walks", True) if fails or makes else None
 
 
-def of_native(number, arguments, linux, here, play, texts):
-    """Of the answer of a native call. `texts` reads a text of the caller by its address."""
-    names = {call: name for name, call in CALLS.items()}
-    name = names.get(number)
-    if number in OF_PROBES:
-        return Known("calls-no-filter-sees", True)
-    if name is None:
-        return Known("other-calls", linux == "dead") if here == "ENOSYS" else None
-    if name == "mount":
-        return of_mount(arguments, linux, here)
-    found = None
-    if name == "setxattr":
-        found = of_setxattr(arguments, texts(arguments[1]), linux, here)
-    if name in ("openat", "mknodat") and (linux, here) == ("ENOTDIR", "EBADF"):
-        found = Known("dirfd-not-a-directory")
-    elif name == "openat":
-        found = of_openat(arguments[2], linux, here)
-    elif name in ("mknod", "mknodat"):
-        found = of_mknod(arguments if name == "mknod" else arguments[1:], linux, here)
-    path = texts(arguments[1 if name in ("openat", "mknodat") else 0])
-    return found or of_path(path, any(answer.isdigit() for answer in (linux, here)), play)
+OF_CALLS = {
+    "mount": of_mount, "setxattr": of_setxattr, "openat": of_openat, "mknod": of_mknod,
+    "mknodat": lambda arguments, *rest: of_mknod(arguments[1:], *rest),
+}
 
 
-def of_verdict(number, filters):
-    """Of what the filters say of a call."""
-    if number in OF_PROBES:
-        return Known("calls-no-filter-sees", True)
-    if any(instruction in INSTRUCTION_POINTER for instructions, _ in filters for instruction in instructions):
-        return Known("instruction-pointer", True)
-    return None
+# ---- what filters say
+
+def of_verdict(linux, here, step, place):
+    if step.call[0] in OF_PROBES:
+        return Known("calls-no-filter-sees", True) if linux == OF_PROBES[step.call[0]] else None
+    return Known("instruction-pointer", True) if is_seen_otherwise(linux, step, place) else None
 
 
-def of_act(request, linux, here, play):
-    """Of what came of a worker's effect. `request` is the tokens of it."""
-    if linux == "EROFS":
-        return Known("mount-options", True)
-    if request[0] == "setxattr" and (found := of_attribute(request[2], linux, here, "ok")):
-        return found
-    if request[0] == "mount":
-        if not request[3] and here == "EINVAL":
-            return Known("mount-without-type") if linux in (*WALK, "ENODEV") else None
-        if int(request[4].removeprefix("flags=")) & ~FIRST_FLAGS:
-            return Known("mount-flags", True)
-    path = request[2] if request[0] in ("mknodat", "mount") else request[1]
-    return of_path(path, "ok" in (linux, here), play)
+def is_seen_otherwise(linux, step, place):
+    """Whether the filters say this of the call for the address of its instruction, and something else for the address 0."""
+    told, plain = (filters.verdict(step.filters, *step.call, address) for address in (place.instruction_pointer, 0))
+    if told == plain:
+        return False
+    answers = {"notify": "notify", "kill": "dead", "nosys": "ENOSYS", "errno": error_name(told[-1]) if told[-1] else "0"}
+    return linux == answers[told[0]] if told[0] in answers else linux != "notify"
 
 
-def of_spawn(linux, here):
-    """Of the numbers of processes where those of the script run out: they are given again, or none is left."""
-    number = linux.removeprefix("pid=")
-    given_again = here == "EAGAIN" or here.startswith("pid=") and number.isdigit() and int(here.removeprefix("pid=")) < int(number)
-    return Known("process-numbers", True) if number.isdigit() and given_again else None
+# ---- workers
+
+def of_act(linux, here, step, place):
+    """Of an effect."""
+    return OF_EFFECTS[type(step.request).__name__](linux, here, step) or of_path(linux, here, step, place)
 
 
-def of_kill(pid, linux, here):
+def of_node(linux, here, step):
+    return Known("mount-options", True) if (linux, here) == ("EROFS", "ok") and step.walked.read_only else None
+
+
+def of_set_attribute(linux, here, step):
+    return of_node(linux, here, step) or of_attribute(step.request.name, len(step.request.value), linux, here, "ok", step)
+
+
+def of_new_mount(linux, here, step):
+    if not step.request.fstype:
+        return Known("mount-without-type") if here == "EINVAL" and linux in (step.walked.error or "ENODEV", "ENODEV") else None
+    return Known("mount-flags", True) if here == "ok" and linux in ("EINVAL", "nothing mounted") and mount_flags(step.request.flags) & OTHER_MOUNTS else None
+
+
+def mount_flags(flags):
+    """The flags as mount(2) takes them: those of the old magic number don't count."""
+    return flags & ~OF_MAGIC if flags & OF_MAGIC == MAGIC else flags
+
+
+OF_EFFECTS = {"Mknod": of_node, "SetXattr": of_set_attribute, "Mount": of_new_mount}
+
+
+def of_read(linux, here, step, place):
+    if linux == "end of file":
+        return Known("memory-after-end") if step.has_ended else None
+    return Known("sysinfo-part", True) if step.is_torn and not linux.startswith("E") else None
+
+
+def of_write(linux, here, step, place):
+    if linux == "end of file":
+        return Known("memory-after-end") if step.has_ended else None
+    return Known("plant-part", True) if (linux, here) == (f"wrote {step.fitting}", "EFAULT") and 0 < step.fitting < SYSINFO else None
+
+
+def of_receive(linux, here, step, place):
+    return Known("receive-without-tasks") if (linux, here) == ("ENOENT", "waits") and step.has_ended else None
+
+
+def of_installation(linux, here, step, place):
+    put = step.put
+    if not put.asked.flags & SET_NUMBER:
+        if put.has_others and here.isdigit() and (linux.isdigit() or linux == "EMFILE"):
+            return Known("request-order", True)
+        return Known("descriptor-limit-errors") if (linux, here) == ("EMFILE", "EBADF") and put.is_full else None
+    return Known("descriptor-limit-errors") if (linux, here) == ("EBADF", "EMFILE") and put.asked.newfd >= MOST_DESCRIPTORS else None
+
+
+def of_take(linux, here, step, place):
+    put = step.put
+    if here != "ENOENT":
+        return of_installation(linux, here, step, place)
+    if put.lost_by == "signal":
+        return Known("descriptor-before-signal", True) if linux.isdigit() else None
+    if put.lost_by == "answer" and linux.isdigit():
+        return Known("answer-behind-a-request", True)
+    return Known("request-of-a-gone-call") if put.lost_by == "answer" and linux == "ESRCH" else None
+
+
+def of_answer(linux, here, step, place):
+    """Of an answer, or a request for a descriptor, to a call that isn't there any more."""
+    return Known("return-behind-an-installation") if (linux, here) == ("ENOENT", "EINPROGRESS") and step.is_installed else None
+
+
+# ---- signals, tasks and their numbers
+
+def of_delivery(linux, here, step, place):
+    """Of a signal that has to be delivered: it ends the task here, or its handler runs."""
+    if here != "dead":
+        return Known("fatal-signal-at-once", True) if linux == "dead" and step.fatal and not step.is_queued else None
+    if place.is_init and linux in ("notify", "idle") and not step.pending - step.fatal:
+        return Known("init-is-killed-by-its-child", True)
+    if step.is_held and linux == "notify" and step.pending - step.fatal and 9 not in step.pending:
+        return Known("second-fatal-signal", True)
+    return Known("descriptor-before-signal", True) if step.is_queued and linux.startswith("handler") else None
+
+
+def of_effect_of_signal(linux, here, step, place):
+    return Known("descriptor-before-signal", True) if step.is_queued and here in ("eintr", "restart") and linux == "run" else None
+
+
+def of_resume(linux, here, step, place):
+    caught = step.pending - step.fatal
+    return Known("restart-errors", True) if here in RESTARTS and linux in ("EINTR", "restarts") and caught else None
+
+
+def of_spawn(linux, here, step, place):
+    """Of the numbers of processes where those of the script have run out: they are given again, or none is left."""
+    given = linux.removeprefix("pid=")
+    runs_out = here == "EAGAIN" or here.startswith("pid=") and int(here.removeprefix("pid=")) <= step.last_pid
+    return Known("process-numbers", True) if place.as_init and runs_out and given.isdigit() and int(given) > step.last_pid else None
+
+
+def of_kill(linux, here, step, place):
     """Of a signal to a number that kill(2) takes for more than one process: 0, and those that are negative in 32 bits."""
-    return Known("kill-of-a-group", True) if (linux, here) == ("ok", "ESRCH") and is_group(pid) else None
+    if (linux, here) != ("ok", "ESRCH"):
+        return None
+    return Known("kill-of-a-group", True) if is_group(step.whom) else Known("init-reaps-orphans", True) if place.is_orphan else None
 
 
 def is_group(pid):
     return pid == 0 or pid >= 2**31
 
 
-def of_installation(linux, here):
-    return Known("descriptor-limit-errors") if {linux, here} == {"EMFILE", "EBADF"} else None
+def of_wait(linux, here, step, place):
+    return Known("init-reaps-orphans", True) if place.is_orphan and linux.isdigit() else None
+
+
+def of_end_of_init(linux, here, step, place):
+    return Known("init-ends", True) if place.is_init and (linux, here) == ("ended", "alive") else None
+
+
+def of_map(linux, here, step, place):
+    return Known("last-page", True) if (linux, here) == ("ENOMEM", f"mapped up to {END_OF_ADDRESSES}") else None
+
+
+RULES = {
+    "verdict": of_verdict, "native call": of_native, "effect of the signal": of_effect_of_signal, "effect of": of_act, "read": of_read, "write": of_write,
+    "receive": of_receive, "install": of_installation, "take of a descriptor": of_take, "send": of_answer, "request for a descriptor": of_answer, "deliver": of_delivery, "resume": of_resume, "spawn": of_spawn,
+    "kill": of_kill, "wait": of_wait, "skip of a wait": of_wait, "the other tasks": of_end_of_init, "map": of_map,
+}

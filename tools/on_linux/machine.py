@@ -44,6 +44,11 @@ def error_number(name):
     return getattr(errno, name, None) or int(name[1:])
 
 
+def seen_by_caller(back):
+    """How a caller sees a value or an error that a report names: values from -4095 to -1 are errors to it."""
+    return answer(int(back) if back.lstrip("-").isdigit() else -error_number(back))
+
+
 def answer(result):
     """What a call gave back, as a report says it."""
     return error_name(-result) if -4096 < result < 0 else str(result)

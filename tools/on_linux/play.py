@@ -18,16 +18,13 @@ class Difference(NamedTuple):
 
 
 class Play:
-    def __init__(self, stage, events):
-        self.stage, self.settings, self.events = stage, stage.settings, events
+    def __init__(self, stage, events, steps=()):
+        self.stage, self.settings, self.events, self.steps = stage, stage.settings, events, steps
         self.places = self.index(events)
         self.differences, self.compared = [], 0
-        self.first_id = None  # of the machine's notifications; a script's begin with `firstid`
         self.entered = {}  # what each notification has to tell: number, arguments, PID
-        self.mounted = False
-        self.torn = False  # a native sysinfo wrote a part of its answer
         self.doubt = ""  # why a difference may come of the comparison itself
-        self.links_with_slash = any(words[0] == "link" and known.slash_at_the_end(words[2]) for words in self.settings.tree)
+        self.requests = []  # for descriptors, the oldest first
         self.of_tasks, self.of_workers = TaskEvents(self), WorkerEvents(self)
 
     def index(self, events):
@@ -39,7 +36,19 @@ class Play:
                 places["kill", event.fields[0]].append(event.place)
         return places
 
-    def differs(self, what, linux, here, known=None):
+    @property
+    def step(self):
+        """The facts of the event."""
+        return self.steps[self.event.place]
+
+    def name(self, what, linux, here, is_orphan):
+        """The known difference that this one is, or None."""
+        is_init = self.stage.as_init and self.event.actor == "t0"
+        place = known.Place(self.stage.call_address, self.stage.as_init, is_init, is_orphan)
+        return known.find(self.event.line, what, linux, here, self.step, place)
+
+    def differs(self, what, linux, here, is_orphan=False):
+        known = self.name(what, str(linux), str(here), is_orphan)
         if known is None and self.doubt:
             raise Stop(self.doubt)
         name = known.name if known else ""
@@ -49,16 +58,16 @@ class Play:
         if known is None or known.apart:
             raise Stop("")
 
-    def same(self, what, linux, here, known=None):
+    def same(self, what, linux, here, is_orphan=False):
         if str(linux) == str(here):
             return True
-        self.differs(what, linux, here, known)
+        self.differs(what, linux, here, is_orphan)
         return False
 
     def real_id(self, stated):
         """The machine's id of the notification that a script's kernel names so."""
         distance = (stated - self.settings.firstid) % 2**64
-        return (0x1234567 if self.first_id is None else self.first_id) + distance & 2**64 - 1
+        return self.stage.first_id + distance & 2**64 - 1
 
     def play(self, end):
         """Plays the events, up to a time."""
@@ -80,9 +89,7 @@ class Play:
         try:
             task = self.stage.first_task()
         except machine.CannotMap as refused:
-            if refused.end != known.END_OF_ADDRESSES:
-                raise
-            self.differs("map", machine.error_name(refused.error), "mapped", known.Known("last-page", True))
+            self.differs("map", machine.error_name(refused.error), f"mapped up to {refused.end}")
         self.same("PID of the first task", f"pid={task.number}", self.event.fields[1])
 
     def end(self):

@@ -6,7 +6,7 @@ import traceback
 from collections import Counter
 from typing import NamedTuple
 
-from on_linux import apart, differences, probes_of_filters, probes_of_listeners, probes_of_memory
+from on_linux import apart, probes_of_filters, probes_of_listeners, probes_of_memory
 
 
 class Probe(NamedTuple):
@@ -14,7 +14,8 @@ class Probe(NamedTuple):
     what: str
     linux: str
     expected: str
-    name: str  # of the known difference, where there is one
+    name: str  # of the known difference that Linux's answer shows, if it is the one below
+    there: str = ""  # the answer that Linux is known for
 
 
 class Notes:
@@ -23,9 +24,13 @@ class Notes:
     def __init__(self):
         self.probes = []
 
-    def take(self, area, what, linux, expected, name=""):
-        linux, expected = str(linux), str(expected)
-        self.probes.append(Probe(area, what, linux, expected, name if linux != expected else ""))
+    def take(self, area, what, linux, expected, name="", there=""):
+        self.probes.append(Probe(area, what, *map(str, (linux, expected)), name, str(there)))
+
+
+def name_of(probe: Probe) -> str:
+    """The known difference that a probe shows, or nothing."""
+    return probe.name if probe.linux == probe.there != probe.expected else ""
 
 
 def found_by(group, bench):
@@ -46,13 +51,12 @@ def run(bench, verbose):
         probes, error = apart.in_namespaces(lambda: found_by(group, bench)) or ([], "a group of probes ended\n")
         found += [Probe(*probe) for probe in probes]
         errors += [error] if error else []
-    known = differences.names()
-    unknown = [probe for probe in found if probe.linux != probe.expected and probe.name not in known]
+    unknown = [probe for probe in found if probe.linux != probe.expected and not name_of(probe)]
     for probe in found:
         if verbose or probe in unknown:
-            print(f"{probe.area}: {probe.what}: Linux {probe.linux}, here {probe.expected}" + (f" ({probe.name})" if probe.name else ""))
+            print(f"{probe.area}: {probe.what}: Linux {probe.linux}, here {probe.expected}" + (f" ({name_of(probe)})" if name_of(probe) else ""))
     print("".join(errors), end="")
-    counts = Counter(probe.name for probe in found if probe.linux != probe.expected)
+    counts = Counter(name_of(probe) for probe in found if probe.linux != probe.expected)
     for name, count in counts.most_common():
         print(f"on-linux: {count:6} {name or 'not known'}")
     equal = sum(probe.linux == probe.expected for probe in found)

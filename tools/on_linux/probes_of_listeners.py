@@ -1,4 +1,5 @@
 """Requests to a listener that no worker of a script makes."""
+import signal
 import struct
 import time
 
@@ -89,7 +90,11 @@ def run(bench, notes):
 
 
 def run_killable(bench, notes):
-    of_listener(bench, lambda *probe: notes.take("killable listener", *probe), True)
+    def note(*probe):
+        notes.take("killable listener", *probe)
+
+    of_listener(bench, note, True)
+    stopped(Scene(bench, True), note, (0, "waits"))
 
 
 def of_listener(bench, note, killable):
@@ -145,8 +150,8 @@ def plain_requests(scene, note):
     note("ID_VALID then", scene.valid(name), "0")
     note("a second ADDFD with flags 0", scene.add(name, 0, worker=2), "waits")
     note("the call then", scene.run(), "notify")
-    note("the first of two requests is installed at", scene.taken(1), 3, "request-order")
-    note("the second of two requests is installed at", scene.taken(2), 4, "request-order")
+    note("the first of two requests is installed at", scene.taken(1), 3, "request-order", 4)
+    note("the second of two requests is installed at", scene.taken(2), 4, "request-order", 3)
     for number, expected in ((1, "1"), (7, "7"), (8, "EBADF")):
         note(f"ADDFD SETFD {number}", scene.add(name, SET_NUMBER, number=number, worker=1), "waits")
         scene.run()
@@ -154,7 +159,7 @@ def plain_requests(scene, note):
     for number in (1048576, 2**31, 2**32 - 1):
         note(f"ADDFD SETFD {number}", scene.add(name, SET_NUMBER, number=number, worker=1), "waits")
         scene.run()
-        note(f"installed at {number}", scene.taken(1), "EMFILE", "descriptor-limit-errors")
+        note(f"installed at {number}", scene.taken(1), "EMFILE", "descriptor-limit-errors", "EBADF")
 
 
 def requests_that_send(scene, note):
@@ -172,7 +177,7 @@ def requests_that_send(scene, note):
         scene.taken(1)
     note("ADDFD and SEND where no number is free", scene.add(name, AND_SEND, worker=1), "waits")
     scene.run()
-    note("the answer where no number is free", scene.taken(1), "EBADF", "descriptor-limit-errors")
+    note("the answer where no number is free", scene.taken(1), "EBADF", "descriptor-limit-errors", "EMFILE")
     note("ID_VALID then", scene.valid(name), "0")
     note("SEND", scene.send(name, 7), "0")
     note("ID_VALID of an answered call", scene.valid(name), "ENOENT")
@@ -203,8 +208,8 @@ def answers(scene, note):
         note("the call returns", scene.run(), expected)
         name = scene.received_call()
     for error in (1, 38, 4095, -4096, -2**31):
-        note(f"SEND of error {error}", scene.send(name, 0, error), "EINVAL", "answer-errors")
-        note("the call then", scene.run(), "notify", "answer-errors")
+        note(f"SEND of error {error}", scene.send(name, 0, error), "EINVAL", "answer-errors", 0)
+        note("the call then", scene.run(), "notify", "answer-errors", error)
         name = scene.received_call()
 
 
@@ -213,7 +218,7 @@ def ended_caller(scene, note):
     note("ADDFD with flags 0", scene.add(name, 0, worker=1), "waits")
     scene.signal(9)
     note("the task after SIGKILL", scene.run(), "dead")
-    note("the answer to the request", scene.taken(1), "ENOENT", "descriptor-before-signal")
+    note("the answer to the request", scene.taken(1), "ENOENT", "descriptor-before-signal", 3)
 
 
 def close_on_exec(scene, note):
@@ -230,8 +235,8 @@ def closed(bench, note, killable):
         scene = Scene(bench, killable)
         scene.received_call() if received else scene.call()
         scene.stage.broker.own_call(CALLS["close"], LISTENER)
-        note(f"the listener is closed, the call {'was' if received else 'was not'} received: it returns", scene.run(), "open", "listener-closed")
-    note("a notified call after that", scene.tasks.outcome(scene.task, scene.call()), "open", "listener-closed")
+        note(f"the listener is closed, the call {'was' if received else 'was not'} received: it returns", scene.run(), "open", "listener-closed", "ENOSYS")
+    note("a notified call after that", scene.tasks.outcome(scene.task, scene.call()), "open", "listener-closed", "ENOSYS")
     scene = Scene(bench, killable)
     scene.handler(10, 2)
     scene.call()
@@ -239,6 +244,16 @@ def closed(bench, note, killable):
     note("a signal before the RECV: the call returns", scene.run(), "EINTR")
     note("RECV then", scene.receive(), "ENOENT")
     note("RECV again", scene.receive(), "waits")
+
+
+def stopped(scene, note, there):
+    """A caller that is stopped and goes on. `there` has Linux's answers."""
+    name = scene.received_call()
+    for number in (signal.SIGSTOP, signal.SIGCONT):
+        scene.signal(number)
+        scene.run()
+    note("ID_VALID after SIGSTOP and SIGCONT", scene.valid(name), 0, "stopped-calls", there[0])
+    note("RECV then", scene.receive(), "waits", "stopped-calls", there[1])
 
 
 def interrupted(bench, note):
@@ -256,12 +271,13 @@ def interrupted(bench, note):
     scene.signal(10)
     note("ADDFD with a signal pending", scene.add(name, 0, worker=1), "waits")
     note("the call returns", scene.run(), "EINTR")
-    note("the answer to the request", scene.taken(1), "ENOENT", "descriptor-before-signal")
+    note("the answer to the request", scene.taken(1), "ENOENT", "descriptor-before-signal", 3)
+    stopped(Scene(bench), note, ("ENOENT", 0))
     for mode, handler in ((2, "plain"), (1, "restarting")):
         for error in (512, 513, 514, 516):
             scene = Scene(bench)
             scene.handler(10, mode)
             scene.send(scene.received_call(), 0, -error)
             scene.signal(10)
-            note(f"SEND of error -{error}, then a signal with a {handler} handler: the call returns", scene.run(), f"E{error}", "restart-errors")
+            note(f"SEND of error -{error}, then a signal with a {handler} handler: the call returns", scene.run(), f"E{error}", "restart-errors", "restarts" if error == 513 or (mode, error) == (1, 512) else "EINTR")
             time.sleep(PAUSE)

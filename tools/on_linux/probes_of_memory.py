@@ -5,6 +5,7 @@ import os
 from on_linux import apart, machine
 from on_linux.machine import CALLS, answer
 from on_linux.probes_of_listeners import SETTINGS, Scene
+from on_linux.script_text import FIRST_FREE_PID
 from on_linux.stage import PROC
 from on_linux.stand_in import Order
 
@@ -19,10 +20,10 @@ def run(bench, notes):
 
     reads(Scene(bench), note)
     for mode, name in ((2, "plain"), (1, "restarting")):
-        note(f"a signal with a {name} handler during wait(2)", signalled_wait(Scene(bench, settings=SETTINGS), mode), "waits", "wait-interrupted")
-    note(f"the PID behind {GREATEST_PID}, the greatest, where no base is stated", apart.in_namespaces(number_given_again), 2, "process-numbers")
+        note(f"a signal with a {name} handler during wait(2)", signalled_wait(Scene(bench, settings=SETTINGS), mode), "waits", "wait-interrupted", "EINTR")
+    note(f"the PID behind {GREATEST_PID}, the greatest, where no base is stated", apart.in_namespaces(number_given_again), 2, "process-numbers", FIRST_FREE_PID)
     for what, act in MOUNTS.items():
-        note(f"{what} by the root of a user namespace", in_user_namespace(act), "EPERM", "user-namespace")
+        note(f"{what} by the root of a user namespace", in_user_namespace(act), "EPERM", "user-namespace", 0)
 
 
 def reads(scene, note):
@@ -42,9 +43,9 @@ def reads(scene, note):
         note(f"read of {length} bytes at 0x{address:x}: how many", len(got), len(expected))
         note(f"read of {length} bytes at 0x{address:x}: the right ones", got == expected, True)
     for address in (END, 0, 0xFFFF, 2**47 - 1, 2**47, 2**63, 2**64 - 1):
-        note(f"read at 0x{address:x}, where nothing is mapped", read(address, 16), "EFAULT", "memory-errors")
+        note(f"read at 0x{address:x}, where nothing is mapped", read(address, 16), "EFAULT", "memory-errors", "EINVAL" if address >= 2**63 else "EIO")
     nobody = worker.own_call(CALLS["openat"], PROC, worker.put(b"999/mem\0"), 2, 0)
-    note("opening of the memory of nobody", answer(nobody), "ESRCH", "memory-errors")
+    note("opening of the memory of nobody", answer(nobody), "ESRCH", "memory-errors", "ENOENT")
 
 
 def signalled_wait(scene, mode):

@@ -136,11 +136,20 @@ def settings(script):
     return found
 
 
+def with_high_pid(line):
+    """The line of a worker's request with the PID that the task has where PIDs are high."""
+    words = line.split()
+    if words[:1] != [b"w"] or words[2:3] not in ([b"open-mem"], [b"open-base"]):
+        return line
+    pid = number(words[3].decode())
+    return b" ".join([*words[:3], b"%d" % (pid + FIRST_FREE_PID - 1 if pid < FIRST_FREE_PID else pid), *words[4:]])
+
+
 def with_high_pids(script):
-    """The script with PIDs from 300 on, where it states none: both kernels can give these."""
+    """The script with PIDs from 300 on, where it states none, also in its workers' requests: both kernels can give these."""
     if settings(script).pidbase:
         return script
-    lines = script.split(b"\n")
+    lines = list(map(with_high_pid, script.split(b"\n")))
     stated = [at for at, line in enumerate(lines) if line.split()[:1] == [b"pidmax"]]
     lines.insert(stated[0] + 1 if stated else 0, HIGH_PIDS)
     return b"\n".join(lines)

@@ -24,6 +24,7 @@ RIGHTS = sum(1 << capability for capability in (*range(8), 31))
 CLONE_VM, CLONE_FILES = 0x100, 0x400
 THREAD = CLONE_VM | CLONE_FILES
 FILTER_TEXT, CAPABILITIES = 8192, 4112
+OWN_NOTIFIED = 0x0FFFFFFF  # the number of no call
 SIGNALS = (signal.SIGUSR1, signal.SIGUSR2, signal.SIGTERM)
 
 
@@ -39,6 +40,7 @@ class Stage:
         self.settings, self.program, self.room, self.processor, self.as_init = settings, program, room, processor, as_init
         self.tasks, self.workers = {}, {}
         self.slots = 0
+        self.first_id = 0x1234567  # of the script's first notification
 
     def build(self, workers):
         os.sched_setaffinity(0, {self.processor})
@@ -97,7 +99,7 @@ class Stage:
 
     def own_number(self, number):
         """This process's number for the process that has a number of the script, or one that nobody has."""
-        if not self.as_init:
+        if not self.as_init and number >= script_text.FIRST_FREE_PID:
             return number
         return next((task.pid for task in reversed(self.tasks.values()) if task.number == number and not task.reaped), 0)
 
@@ -196,6 +198,7 @@ class Stage:
         self.launch(task, dict.fromkeys((0, 1, 2), lambda: os.open("/dev/null", os.O_RDWR)))
         self.tasks["0"] = task
         self.code = task.addresses()
+        self.call_address = self.code.script_call_after
         for address, pages in self.settings.map:
             got = task.own_call(machine.MMAP, address, pages * 4096, 3, 0x100032, -1, 0)
             if got != address:
@@ -203,15 +206,19 @@ class Stage:
         resource.prlimit(task.pid, resource.RLIMIT_CORE, (0, 0))
         for instructions, listens in self.settings.filters:
             self.install_filter(task, instructions, listens)
+        if self.settings.has_listener:
+            self.first_id = self.own_id(task) + 1
         self.drop_capabilities(task)
         resource.prlimit(task.pid, resource.RLIMIT_NOFILE, (self.settings.rlimit, self.settings.rlimit))
         task.hold_in_handlers()
         return task
 
     def install_filter(self, task, instructions, listens):
-        """Installs a filter behind six instructions that allow the stand-in's own calls, and gives its listener to the broker."""
+        """Installs a filter behind instructions that allow the stand-in's own calls, but for one that they notify, and gives its listener to the broker."""
         low, high = self.code.own_call_after & 0xFFFFFFFF, self.code.own_call_after >> 32
-        own = [(0x20, 0, 0, 12), (0x15, 0, 3, high), (0x20, 0, 0, 8), (0x15, 0, 1, low), (6, 0, 0, machine.ALLOW), (0, 0, 0, 0)]
+        notify = [(0x20, 0, 0, 0), (0x15, 0, 1, OWN_NOTIFIED), (6, 0, 0, machine.NOTIFY)] if listens else []
+        left = len(notify) + 1
+        own = [(0x20, 0, 0, 12), (0x15, 0, left + 2, high), (0x20, 0, 0, 8), (0x15, 0, left, low), *notify, (6, 0, 0, machine.ALLOW), (0, 0, 0, 0)]
         program = [*own, *instructions]
         text = task.put(b"".join(struct.pack("<HBBI", *instruction) for instruction in program), FILTER_TEXT)
         flags = (machine.NEW_LISTENER | (machine.WAIT_KILLABLE if self.settings.killable else 0)) if listens else 0
@@ -220,6 +227,16 @@ class Stage:
             raise Stop(f"filter: {machine.answer(listener)}")
         if listens:
             self.take_listener(task, listener)
+
+    def own_id(self, task):
+        """The id of a notified call of the stand-in's own. The ids behind it are those of the script's calls."""
+        task.order(Order.OWN_CALL, OWN_NOTIFIED)
+        task.settle()
+        self.broker.own_call(machine.IOCTL, LISTENER, machine.RECEIVE, self.broker.put(bytes(80)))
+        found = self.broker.get(8)
+        self.broker.own_call(machine.IOCTL, LISTENER, machine.SEND, self.broker.put(found.ljust(24, b"\0")))
+        task.settle()
+        return struct.unpack("<Q", found)[0]
 
     def take_listener(self, task, listener):
         held = self.broker.own_call(machine.PIDFD_OPEN, task.pid, 0)

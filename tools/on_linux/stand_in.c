@@ -10,7 +10,7 @@ typedef long i64;
 #define MAILBOX 0x40000UL
 #define STACKS 0x210000000000UL
 #define STACK 0x10000UL
-#define SLOTS 300
+#define SLOTS 312
 #define SHARED_TEXTS 4096
 
 enum { CLOSE = 3, MMAP = 9, SIGACTION = 13, SIGRETURN = 15, CLONE = 56, FUTEX = 202 };

@@ -14,7 +14,7 @@ from on_linux.machine import Stop
 SOURCE = f"{os.path.dirname(os.path.realpath(__file__))}/stand_in.c"
 FLAGS = ("-O1 -static -nostdlib -ffreestanding -fno-stack-protector -fcf-protection=none -fno-pie -no-pie -mno-sse "
          "-Wl,-Ttext-segment=0x60000000 -Wl,--build-id=none -z noexecstack -Wall -Wextra").split()
-MAILBOX, SLOTS, FIRST_WORKER = 0x40000, 300, 280
+MAILBOX, SLOTS, FIRST_WORKER = 0x40000, 312, 280
 MAILBOXES = 0x200000000000
 # within a mailbox
 RESULT, ARGUMENTS, LOG, ADDRESSES, TEXTS = 24, 32, 96, 1632, 4096
@@ -191,7 +191,8 @@ class Worker(StandIn):
 
     def __init__(self, boxes, address, number):
         super().__init__(boxes, address, FIRST_WORKER + number, f"w{number}")
+        self.seat = number
         self.memory = self.base = None  # its descriptors of the caller's memory and of a directory
         self.caller = None  # the PID of the notification
         self.notification = None  # its id, as the journal says it
-        self.requested = None  # the PID and the id of a request for a descriptor that isn't taken
+        self.request = None  # for a descriptor, which isn't taken

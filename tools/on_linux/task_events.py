@@ -6,7 +6,6 @@ import time
 from bisect import bisect_right
 
 from on_linux import known, machine
-from on_linux.known import Known
 from on_linux.machine import CALLS, Stop, answer
 from on_linux.script_text import FIRST_FREE_PID
 from on_linux.stage import CLONE_FILES, CLONE_VM
@@ -42,7 +41,7 @@ class TaskEvents:
             return  # the native call was done, and its task is gone: see do_resume
         if event.what == "deliver" and not task.ended:
             if event.fields[1] != "end":
-                self.differs("deliver", "dead", f"signal {event.fields[0]}", Known("fatal-signal-at-once", True))
+                self.differs("deliver", "dead", f"signal {event.fields[0]}")
             self.note_end(task)
             return
         self.same("ended", "skip", event.what)
@@ -62,7 +61,7 @@ class TaskEvents:
             pass
         if others:
             ended = all(task.is_dead() for task in others)
-            self.same("the other tasks at the end of PID 1", "ended" if ended else "alive", "alive", Known("init-ends", True))
+            self.same("the other tasks at the end of PID 1", "ended" if ended else "alive", "alive")
 
     def orphan(self, number, task):
         """The ended task with that number that isn't a child of this one in the script, or None."""
@@ -122,15 +121,6 @@ class TaskEvents:
             return answer(handled.value - (2**64 if handled.value >= 2**63 else 0))
         return "restarts" if handled.instruction == self.stage.code.script_call_at else "handler elsewhere"
 
-    def text_of(self, task, address):
-        """The text at an address, or nothing where there is none."""
-        try:
-            with open(f"/proc/{task.pid}/mem", "rb", buffering=0) as memory:
-                memory.seek(address)
-                return memory.read(4096).split(b"\0")[0]
-        except (OSError, OverflowError, ValueError):
-            return b""
-
     # ---- what the journal tells later
 
     def is_signalled_before_native(self, task):
@@ -186,7 +176,7 @@ class TaskEvents:
             self.tasks[name] = child
             child.settle()
         linux = f"pid={result}" if result > 0 else answer(result)
-        self.same("spawn", linux, came, known.of_spawn(linux, came) if self.stage.as_init else None)
+        self.same("spawn", linux, came)
 
     def do_kill(self, task, pid, number, came):
         pid, number = int(pid), int(number)
@@ -198,11 +188,7 @@ class TaskEvents:
             raise Stop("a signal to everybody would go to the stage's own processes")
         if not self.stage.as_init and 0 < pid < FIRST_FREE_PID and all(other.number != pid for other in self.tasks.values()):
             return  # the stage's own processes stand below the first
-        linux = self.kill(task, pid, number)
-        difference = known.of_kill(pid, linux, came)
-        if difference is None and (linux, came) == ("ok", "ESRCH") and self.orphan(pid, task):
-            difference = Known("init-reaps-orphans", True)
-        self.same("kill", linux, came, difference)
+        self.same("kill", self.kill(task, pid, number), came, bool(self.orphan(pid, task)))
 
     def kill(self, task, pid, number):
         """What the signal is answered. A task that signals itself would run at once, so that signal is sent from outside, unless it is one
@@ -221,7 +207,7 @@ class TaskEvents:
         result = task.result() if state == "idle" else state
         child = self.tasks.get(came)
         told = "no child has ended" if result == 0 else result if isinstance(result, str) else answer(result)
-        self.same("wait", told, child.number if child else came, Known("init-reaps-orphans", True) if self.orphan(result, task) else None)
+        self.same("wait", told, child.number if child else came, bool(self.orphan(result, task)))
         if child is not None:
             child.reaped = True
 
@@ -238,8 +224,8 @@ class TaskEvents:
         state = self.wait_for_child(task)
         if state == "idle" and any(child.number == task.result() and not child.ended for child in self.tasks.values()):
             raise Stop("a child died before the step that tells it")
-        orphan = state == "idle" and self.orphan(task.result(), task)
-        self.same("skip of a wait", answer(task.result()) if state == "idle" else state, "0", Known("init-reaps-orphans", True) if orphan else None)
+        is_orphan = state == "idle" and bool(self.orphan(task.result(), task))
+        self.same("skip of a wait", answer(task.result()) if state == "idle" else state, "0", is_orphan)
 
     # ---- calls
 
@@ -259,18 +245,17 @@ class TaskEvents:
             self.compare_verdict(task, verdict, number, arguments, state)
 
     def compare_verdict(self, task, verdict, number, arguments, state):
-        difference = known.of_verdict(number, self.play.settings.filters)
         if verdict.startswith("notify"):
             task.notification = int(verdict.split("=")[1])
             self.play.entered[task.notification] = (number, arguments, task.number)
-            self.same("verdict", state if state == "notify" else self.outcome(task, state), "notify", difference)
+            self.same("verdict", state if state == "notify" else self.outcome(task, state), "notify")
             return
         if verdict == "kill":
-            self.same("verdict", state, "dead", difference)
+            self.same("verdict", state, "dead")
             self.note_end(task)
             return
         error = 38 if verdict == "nosys" else int(verdict.split("=")[1])
-        self.same("verdict", self.outcome(task, state), machine.error_name(error) if error else "0", difference)
+        self.same("verdict", self.outcome(task, state), machine.error_name(error) if error else "0")
         task.call = None
 
     def do_native(self, task, came):
@@ -291,15 +276,9 @@ class TaskEvents:
 
     def compare_native(self, task, linux, here):
         number, arguments = task.call
-        if number == CALLS["sysinfo"] and linux == here == "EFAULT":
-            self.play.torn = True  # Linux wrote the bytes before the fault
         if number == CALLS["sysinfo"] and linux == here == "0":
             self.write_figures(task, arguments[0])
-        if self.play.torn:
-            difference = Known("sysinfo-part", True)
-        else:
-            difference = known.of_native(number, arguments, linux, here, self.play, lambda address: self.text_of(task, address)) if linux != here else None
-        self.same(f"native call {number}", linux, here, difference)
+        self.same(f"native call {number}", linux, here)
 
     def write_figures(self, task, address):
         """The script's figures are written over the machine's."""
@@ -310,29 +289,44 @@ class TaskEvents:
     def do_resume(self, task, back):
         # An answer that was taken wins over signals, so the task may be let run later: the native call belongs to the next step, and a task
         # that a signal ends can't be stopped between its return and its end.
+        is_asked_for = self.is_asked_for(task)
         if back == "continue":
-            task.return_is_late = True
+            task.return_is_late = not is_asked_for
+            task.saved = self.outcome(task, task.settle()) if is_asked_for else None
             return
         if self.ends_next(task):
+            if is_asked_for:
+                self.same("end behind an answer", task.settle(), "dead")
             return
         came = self.outcome(task, "idle" if task.is_idle() else task.settle())
         if came == "dead":
             raise Stop(BEHIND_ANSWER)
-        self.same("resume", came, back)
+        self.same("resume", came, machine.seen_by_caller(back))
         task.call = None
 
+    def is_asked_for(self, task):
+        """Whether a worker asks for the answered call before its task's next step, so that the task can't be left standing in it."""
+        later = self.play.events[self.play.event.place + 1:]
+        for event in later:
+            if event.actor == f"t{task.name}" and event.what != "skip":
+                return False
+            if event.what in ("check", "send", "addfd-put") and event.fields[0] == str(task.notification):
+                return True
+            if event.what in ("open-mem", "open-base") and event.fields[0] == str(task.number):
+                return False
+        return False
+
     def request_for(self, task):
-        """The worker whose request for a descriptor waits for the task's call."""
-        waiting = [worker for worker in self.stage.workers.values() if worker.requested == (task.number, task.notification)]
-        return waiting[0] if waiting else None
+        """The oldest request for a descriptor that waits for the task's call, or None."""
+        return next((request for request in self.play.requests if request.id == task.notification and not request.is_installed), None)
 
     def do_install(self, task, came):
         state = task.settle()
-        worker = self.request_for(task)
-        if worker is None or not worker.is_idle():
+        request = self.request_for(task)
+        if request is None or not request.hand.is_idle():
             self.differs("install", f"nothing is installed, {state}", came)
-        linux = answer(worker.result())
-        self.same("install", linux, came, known.of_installation(linux, came))
+        request.is_installed = True
+        self.same("install", answer(request.hand.result()), came)
 
     # ---- signals
 
@@ -347,27 +341,19 @@ class TaskEvents:
             self.compare_handler(task, state, number, effect)
 
     def compare_end(self, task, state):
-        difference = None
-        if self.stage.is_init(task) and state != "dead":
-            difference = Known("init-is-killed-by-its-child", True)
-        elif self.play.settings.killable and state == "notify":
-            difference = Known("second-fatal-signal", True)
-        elif state == "handler" and self.request_for(task):
-            difference = Known("descriptor-before-signal", True)
-        self.same("deliver", f"handler of {task.handled(task.compared).signal}" if state == "handler" else state, "dead", difference)
+        self.same("deliver", f"handler of {task.handled(task.compared).signal}" if state == "handler" else state, "dead")
         self.note_end(task)
 
     def compare_handler(self, task, state, number, effect):
         if state != "handler" or task.compared == task.handlers:
-            self.differs("deliver", self.outcome(task, state), f"signal {number}", Known("fatal-signal-at-once", True) if state == "dead" else None)
+            self.differs("deliver", self.outcome(task, state), f"signal {number}")
         handled = task.handled(task.compared)
         task.compared += 1
         if str(handled.signal) != number and task.signalled_early:
             raise Stop(TO_RETURN)
         self.same("signal", handled.signal, number)
         came = self.effect_of(task, handled)
-        interrupts = effect in ("eintr", "restart") and self.request_for(task)
-        self.same("effect of the signal", came, effect, Known("descriptor-before-signal", True) if interrupts else None)
+        self.same("effect of the signal", came, effect)
         if came == "restart":
             task.restarts = True
         elif came == "eintr":

@@ -1,17 +1,29 @@
 """The events of workers, done by stand-ins and compared: each is a call on the listener, on the caller's memory, or in its tree."""
 import struct
+from dataclasses import dataclass
 
-from on_linux import known, machine
-from on_linux.known import Known
-from on_linux.machine import ADD_DESCRIPTOR, CALLS, CONTINUE, ID_VALID, IOCTL, KINDS, RECEIVE, SEND, X86_64, answer
+from on_linux import machine
+from on_linux.journal import HANDS
+from on_linux.known import PROPAGATION, mount_flags
+from on_linux.machine import ADD_DESCRIPTOR, AND_SEND, CALLS, CONTINUE, ID_VALID, IOCTL, KINDS, RECEIVE, SEND, SET_NUMBER, X86_64, answer
 from on_linux.script_text import tokens
 from on_linux.stage import FIRST_OF_WORKERS, LISTENER, PROC, device
-from on_linux.stand_in import SECOND_TEXT, THIRD_TEXT, Order
+from on_linux.stand_in import SECOND_TEXT, THIRD_TEXT, Order, Worker
 
 F_DUPFD = 0
 O_RDWR, O_PATH, O_CLOEXEC = 0o2, 0o10000000, 0o2000000
 SYSINFO = 112
 NO_BASE = 999999
+
+
+@dataclass
+class Request:
+    """A request for a descriptor that Linux has queued: the stand-in that waits for it, and the call's id as the journal says it."""
+
+    hand: Worker
+    id: int
+    sends: bool
+    is_installed: bool = False
 
 
 class WorkerEvents:
@@ -42,17 +54,16 @@ class WorkerEvents:
         worker.settle()
 
     def do_skip(self, worker):
-        if worker.requested:
-            self.same("take", answer(worker.result()) if worker.is_idle() else "waits", "waits")
+        if worker.request:
+            hand = worker.request.hand
+            self.same("take", answer(hand.result()) if hand.is_idle() else "waits", "waits")
         elif self.settings.has_listener:
             self.compare_waiting(worker)
 
     def compare_waiting(self, worker):
         """A worker that has nothing to receive waits in the receive."""
         if self.ioctl(worker, RECEIVE, 80, b"") == "idle":
-            deserted = worker.result() == -2 and all(task.is_dead() for task in self.stage.tasks.values())
-            self.differs("receive", "a notification" if worker.result() == 0 else answer(worker.result()), "waits",
-                         Known("receive-without-tasks") if deserted else None)
+            self.differs("receive", "a notification" if worker.result() == 0 else answer(worker.result()), "waits")
             return
         self.leave_receive(worker)
         self.same("receive that waits", answer(worker.result()), "EINTR")
@@ -72,8 +83,6 @@ class WorkerEvents:
     def compare_notification(self, worker, stated, pid):
         got_id, got_pid, flags, number, architecture, _ = struct.unpack_from("<QIIiIQ", worker.get(80))
         arguments = list(struct.unpack_from("<6Q", worker.get(80), 32))
-        if self.play.first_id is None:
-            self.play.first_id = (got_id - (stated - self.settings.firstid)) % 2**64
         self.same("id", got_id, self.play.real_id(stated))
         got_pid = self.stage.number_of(got_pid)
         self.same("PID", f"pid={got_pid}", pid)
@@ -96,34 +105,34 @@ class WorkerEvents:
         self.ioctl(worker, SEND, 24, struct.pack("<QqiI", self.play.real_id(int(stated)), value, error, flags))
         self.same("send", "ok" if worker.result() == 0 else answer(worker.result()), came)
 
-    def do_addfd_put(self, worker, stated, source, number, came):
-        stated, source, number = int(stated), int(source.removeprefix("src=")), number.removeprefix("at=")
-        flags = machine.AND_SEND | (machine.SET_NUMBER if number != "-" else 0)
-        entered = self.play.entered.get(stated)
-        close_on_exec = entered[1][2] & O_CLOEXEC if entered and entered[0] == CALLS["openat"] else 0
-        request = struct.pack("<QIIII", self.play.real_id(stated), flags, source, int(number) if number != "-" else 0, close_on_exec)
-        state = self.ioctl(worker, ADD_DESCRIPTOR, 24, request)
+    def do_addfd_put(self, worker, stated, source, number, *rest):
+        """The script's lines tell which flags a request has. The hand that makes it may have to wait."""
+        asked, hand, came = self.play.step.put.asked, self.stage.worker(HANDS + worker.seat), rest[-1]
+        numbers = stated, source.removeprefix("src="), number.removeprefix("at=")
+        self.same("fields of the request", numbers, (str(asked.id), str(asked.srcfd), str(asked.newfd) if asked.flags & SET_NUMBER else "-"))
+        data = struct.pack("<QIIII", self.play.real_id(asked.id), asked.flags, asked.srcfd, asked.newfd, asked.newfd_flags)
+        state = self.ioctl(hand, ADD_DESCRIPTOR, 24, data)
         if state != "idle":
-            worker.requested = (worker.caller, stated)
-        self.same("request for a descriptor", "ok" if state != "idle" else answer(worker.result()), came)
+            worker.request = Request(hand, asked.id, bool(asked.flags & AND_SEND))
+            self.play.requests.append(worker.request)
+        self.same("request for a descriptor", "ok" if state != "idle" else answer(hand.result()), came)
 
     def do_addfd_take(self, worker, came):
-        worker.requested = None
-        state = "idle" if worker.is_idle() else worker.settle()
+        request, worker.request = worker.request, None
+        hand = request.hand
+        state = "idle" if hand.is_idle() else hand.settle()
         if state != "idle" and came == "ENOENT":  # the call left the list: the request waits until its task has run
             for task in self.stage.tasks.values():
-                if task.number == worker.caller and not task.is_dead():
+                if task.notification == request.id and not task.is_dead():
                     task.settle()
-            state = worker.settle()
-        linux = answer(worker.result()) if state == "idle" else "waits"
-        first = came == "ENOENT" and linux != "waits"
-        self.same("take of a descriptor", linux, came, Known("descriptor-before-signal", True) if first else known.of_installation(linux, came))
+            state = hand.settle()
+        self.same("take of a descriptor", answer(hand.result()) if state == "idle" else "waits", came)
 
     def do_let_go(self, worker):
         for descriptor in (worker.memory, worker.base):
             if descriptor is not None:
                 worker.own_call(CALLS["close"], descriptor)
-        worker.memory = worker.base = worker.caller = worker.notification = worker.requested = None
+        worker.memory = worker.base = worker.caller = worker.notification = None
 
     # ---- the caller's memory and its directories
 
@@ -158,28 +167,29 @@ class WorkerEvents:
         self.same("opening of the base", linux, came)
 
     def do_read(self, worker, address, length, came):
+        if worker.memory is None:
+            self.same("read without a memory", "EFAULT", came)
+            return
         result = worker.own_call(machine.PREAD, worker.memory, worker.put(b""), int(length), int(address))
-        if result == 0:
-            self.same("read", "end of file", came, Known("memory-after-end"))
+        if result == 0 and length != "0":
+            self.same("read", "end of file", came)
         elif self.is_fault(result, int(address)):
             self.same("read", "EFAULT", came)
         else:
-            bytes_read = worker.get(result).rstrip(b"\0").hex() or "-" if result > 0 else answer(result)
-            self.same("read", bytes_read, came, Known("sysinfo-part", True) if self.play.torn else None)
+            bytes_read = worker.get(max(result, 0)).rstrip(b"\0").hex() or "-" if result >= 0 else answer(result)
+            self.same("read", bytes_read, came)
 
     def is_fault(self, result, address):
         """/proc/PID/mem answers EIO where nothing is mapped, and EINVAL for the upper half of the addresses."""
         return result == -5 or result == -22 and address >= 2**63 - 200
 
     def do_plant(self, worker, address, came):
-        figures = worker.put(self.figures(self.settings.cgroup))
-        result = worker.own_call(machine.PWRITE, worker.memory, figures, SYSINFO, int(address))
-        if result == 0 and all(task.is_dead() for task in self.stage.tasks.values() if task.number == worker.caller):
-            self.same("write", "end of file", came, Known("memory-after-end"))
-            return
+        if came == "EDQUOT":
+            return  # the policy's own limit
+        result = worker.own_call(machine.PWRITE, worker.memory, worker.put(self.play.step.written), SYSINFO, int(address))
         fault = self.is_fault(result, int(address))
-        linux = "ok" if result == SYSINFO else "EFAULT" if fault else f"wrote {result}" if result >= 0 else answer(result)
-        self.same("write", linux, came, Known("plant-part", True) if linux.startswith("wrote") else None)
+        linux = {SYSINFO: "ok", 0: "end of file"}.get(result, "EFAULT" if fault else f"wrote {result}" if result >= 0 else answer(result))
+        self.same("write", linux, came)
 
     def figures(self, groups):
         """The answer of sysinfo under the limits of these groups."""
@@ -200,8 +210,9 @@ class WorkerEvents:
         act = {"mknod": self.mknod, "mknodat": self.mknod, "mount": self.mount, "setxattr": self.setxattr}[request[0]]
         result = act(worker, request)
         linux = "ok" if result == 0 else answer(result)
-        self.play.mounted |= request[0] == "mount" and result == 0
-        self.same(f"effect of {request[0]}", linux, came, known.of_act(request, linux, came, self.play) if linux != came else None)
+        if linux == "ok" and request[0] == "mount" and mount_flags(int(request[4].removeprefix("flags="))) & PROPAGATION:
+            linux = "nothing mounted"
+        self.same(f"effect of {request[0]}", linux, came)
 
     def mknod(self, worker, request):
         path, kind, *numbers = request[1:] if request[0] == "mknod" else request[2:]
@@ -215,7 +226,7 @@ class WorkerEvents:
         """Mounts an empty file system, whatever the type. Where the call has no type or an empty one, the mount has the same."""
         source, target, kind, flags = request[1:5]
         entered = self.play.entered.get(worker.notification)
-        has_type = entered is None or entered[1][2] != 0
+        has_type = kind or entered is None or entered[1][2] != 0
         texts = (worker.put(source + b"\0"), worker.put(target + b"\0", SECOND_TEXT), worker.put(b"tmpfs\0" if kind else b"\0", THIRD_TEXT) if has_type else 0)
         return worker.own_call(CALLS["mount"], *texts, int(flags.removeprefix("flags=")), 0)
 

@@ -25,9 +25,9 @@ TESTS = {
 }
 
 
-def data_of(number, args):
+def data_of(number, args, instruction_pointer=0):
     """The 64 bytes of struct seccomp_data, as words of 32 bits."""
-    words = [number & WORD, X86_64, 0, 0]
+    words = [number & WORD, X86_64, instruction_pointer & WORD, instruction_pointer >> 32]
     for argument in args:
         words += [argument & WORD, argument >> 32]
     return words
@@ -56,10 +56,10 @@ def precedence(answer):
     return (action(answer) + (1 << 31)) & WORD
 
 
-def verdict(filters, number, args):
+def verdict(filters, number, args, instruction_pointer=0):
     """What the filters say, the oldest first, each with whether it has the listener. A notification has no id here."""
     chosen, listens = ALLOW, False
-    data = data_of(number, args)
+    data = data_of(number, args, instruction_pointer)
     for instructions, listener in filters:
         answer = run(instructions, data)
         # of two equal actions that of the newer filter counts
