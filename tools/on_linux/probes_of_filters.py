@@ -11,7 +11,8 @@ TEXT = "ret 0x7fff0000"
 TAKE = (6, 0, 0, ALLOW)
 # with the index register, scratch words, multiplication, division, and a return of the accumulator
 LEFT_OUT = {0x01, 0x02, 0x03, 0x07, 0x0C, 0x16, 0x1C, 0x1D, 0x24, 0x2C, 0x2D, 0x34, 0x3C, 0x3D, 0x4C, 0x4D, 0x5C, 0x6C, 0x7C, 0x80, 0x81, 0x87, 0xAC}
-MOST_INSTRUCTIONS = 32768  # of all filters, with 4 more for each
+# how many filters of how many instructions, and whether Linux takes them: it counts the instructions that it makes of these
+CHAINS = ((16, 1, "ok"), (16, 2044, "ENOMEM"), (16, 2045, "ENOMEM"), (7, 4096, "ok"), (8, 4096, "ENOMEM"), (16, 4096, "ENOMEM"), (17, 1, "ok"))
 WRITABLE = set(script_text.WORDS.values())
 
 
@@ -107,9 +108,9 @@ def chain(count, length):
 
 
 def chains(bench, note):
-    for count, length in ((16, 1), (16, 2044), (16, 2045), (7, 4096), (8, 4096), (16, 4096), (17, 1)):
+    for count, length, there in CHAINS:
         here = accepted(bench, [["ldi 0"] * (length - 1) + [TEXT]] * count)
-        note(f"{count} filters of {length} instructions", chain(count, length), here, "filter-sizes", "ok" if length * count + 4 * count <= MOST_INSTRUCTIONS else "ENOMEM")
+        note(f"{count} filters of {length} instructions", chain(count, length), here, "filter-sizes", there)
 
 
 # ---- what a filter starts with and sees
