@@ -12,9 +12,10 @@ from stepping import filters
 
 WALK = ("ENOENT", "ENOTDIR", "ELOOP", "ENAMETOOLONG")
 OF_PROBES = {335: "dead", 336: "ENXIO"}
-# unbindable, private, slave, shared; remount, bind, move; no user, and the bits above
-PROPAGATION = 0xF << 17
-OTHER_MOUNTS = 0x20 | 0x1000 | 0x2000 | PROPAGATION | 2**64 - 2**31
+# of the flags of a mount: bind and move, which have a source; remount, and unbindable, private, slave, shared; no user, and the bits above
+FROM_SOURCE = 0x1000 | 0x2000
+OTHER_ACTS = FROM_SOURCE | 0x20 | 0xF << 17
+REFUSED_FLAGS = 2**64 - 2**31
 MAGIC, OF_MAGIC = 0xC0ED0000, 0xFFFF0000
 END_OF_ADDRESSES = 2**47
 MOST_DESCRIPTORS = 1048576
@@ -168,9 +169,12 @@ def of_set_attribute(linux, here, step):
 
 
 def of_new_mount(linux, here, step):
-    if not step.request.fstype:
-        return Known("mount-without-type") if here == "EINVAL" and linux in (step.walked.error or "ENODEV", "ENODEV") else None
-    return Known("mount-flags", True) if here == "ok" and linux in ("EINVAL", "nothing mounted") and mount_flags(step.request.flags) & OTHER_MOUNTS else None
+    has_type, flags = bool(step.request.fstype), mount_flags(step.request.flags)
+    answers = ("EINVAL", "nothing mounted") * bool(flags & (OTHER_ACTS | REFUSED_FLAGS)) + WALK * bool(flags & FROM_SOURCE)
+    if linux in answers and (here in ("ok", "ENOTDIR") or here == "EINVAL" and not has_type):
+        return Known("mount-flags", True)
+    is_without = here == "EINVAL" and not has_type and linux in (step.walked.error or "ENODEV", "ENODEV")
+    return Known("mount-without-type") if is_without else None
 
 
 def mount_flags(flags):
@@ -184,6 +188,8 @@ OF_EFFECTS = {"Mknod": of_node, "SetXattr": of_set_attribute, "Mount": of_new_mo
 def of_read(linux, here, step, place):
     if linux == "end of file":
         return Known("memory-after-end") if step.has_ended else None
+    if (linux, here, step.length) == ("-", "EFAULT", 0):
+        return Known("read-of-nothing")
     return Known("sysinfo-part", True) if step.is_torn and not linux.startswith("E") else None
 
 

@@ -56,6 +56,7 @@ class Step:
     is_other_node: bool = False  # the directory descriptor is open, and no directory
     is_torn: bool = False  # it looks at bytes that only Linux has written
     has_ended: bool = False  # so have all tasks that it is about
+    length: int = 0  # of a worker's read
     written: bytes = b""  # by a worker
     fitting: int = 0  # how many bytes there are mapped where it writes
     pending: frozenset = frozenset()  # signals
@@ -250,7 +251,7 @@ class WatchedKernel(Kernel):
     def note_read(self, actor, address, length, answer):
         memory = self.worker(int(actor[1:])).memory
         self.facts.has_ended = memory is not None and self.has_ended(memory)
-        self.facts.is_torn = self.is_torn(memory, address, length)
+        self.facts.is_torn, self.facts.length = self.is_torn(memory, address, length), length
 
     def note_plant(self, actor, address, content, answer):
         memory = self.worker(int(actor[1:])).memory

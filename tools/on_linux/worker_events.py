@@ -4,7 +4,7 @@ from dataclasses import dataclass
 
 from on_linux import machine
 from on_linux.journal import HANDS
-from on_linux.known import PROPAGATION, mount_flags
+from on_linux.known import OTHER_ACTS, mount_flags
 from on_linux.machine import ADD_DESCRIPTOR, AND_SEND, CALLS, CONTINUE, ID_VALID, IOCTL, KINDS, RECEIVE, SEND, SET_NUMBER, X86_64, answer
 from on_linux.script_text import tokens
 from on_linux.stage import FIRST_OF_WORKERS, LISTENER, PROC, device
@@ -207,12 +207,20 @@ class WorkerEvents:
         *request, came = words
         if came == "EDQUOT":
             return  # the policy's own limit
+        if request[0] in ("mount", "setxattr") and not self.goes_to_base(worker, request[2 if request[0] == "mount" else 1]):
+            return
         act = {"mknod": self.mknod, "mknodat": self.mknod, "mount": self.mount, "setxattr": self.setxattr}[request[0]]
         result = act(worker, request)
         linux = "ok" if result == 0 else answer(result)
-        if linux == "ok" and request[0] == "mount" and mount_flags(int(request[4].removeprefix("flags="))) & PROPAGATION:
+        if linux == "ok" and request[0] == "mount" and mount_flags(int(request[4].removeprefix("flags="))) & OTHER_ACTS:
             linux = "nothing mounted"
         self.same(f"effect of {request[0]}", linux, came)
+
+    def goes_to_base(self, worker, path):
+        """Goes to the directory from which a relative path is meant. Whether the effect can be tried: Linux has no such call without a directory."""
+        if not path.startswith(b"/") and worker.base is not None:
+            worker.own_call(machine.FCHDIR, worker.base)
+        return path.startswith(b"/") or worker.base is not None
 
     def mknod(self, worker, request):
         path, kind, *numbers = request[1:] if request[0] == "mknod" else request[2:]
