@@ -90,7 +90,7 @@ def of_mount(arguments, linux, here, step):
 def of_setxattr(arguments, linux, here, step):
     size, is_named = arguments[3], not step.error_of(1)
     name = step.texts[1] if is_named else b""
-    causes = {*step.errors, step.walked.error} - {""} | ({"EINVAL"} if arguments[4] & 0xFFFFFFFC else set())
+    causes = {*step.errors, step.walked.error} - {""} | ({"EINVAL"} if arguments[4] & 0xFFFFFFFC else set()) | ({"EFAULT"} if step.is_cut else set())
     if here == "E2BIG" and 4096 < size <= attributes.MOST_OF_A_VALUE and linux in ("0", "ENOSPC"):
         return Known("attribute-size", linux == "0")
     if (linux, here) == ("0", "EPERM"):

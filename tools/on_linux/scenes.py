@@ -6,6 +6,7 @@ journal that is compared.
 from dataclasses import dataclass, field, replace
 from typing import Optional
 
+from on_linux.attributes import MOST_OF_A_VALUE
 from stepping import policies, scripts
 from stepping.facts import AT_FDCWD, CALL_NAMES, Addfd, Fail, error_text
 from stepping.kernel import SYSINFO_SIZE, Kernel
@@ -50,6 +51,7 @@ class Step:
     filters: list = field(default_factory=list)  # those that see it
     request: object = None  # of an effect
     texts: list = field(default_factory=list)  # of a native call: bytes, or the error
+    is_cut: bool = False  # of setxattr: memory ends within the value
     walked: Walked = field(default_factory=Walked)
     put: Optional[Put] = None
     is_full: bool = False  # the task has no free number for a descriptor
@@ -175,6 +177,7 @@ class WatchedKernel(Kernel):
         step.texts = [group.copy(part) for part in parts]
         step.is_torn = any(self.is_torn(group, part.address, part.limit) for part in parts)
         step.is_full = group.lowest_free(self.container.rlimit) is None
+        step.is_cut = name == "setxattr" and 0 < args[3] <= MOST_OF_A_VALUE and not group.is_mapped(args[2], args[3])
         if name == "sysinfo":
             self.tear(group, args[0])
         if name in PATHS:

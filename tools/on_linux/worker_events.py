@@ -162,7 +162,7 @@ class WorkerEvents:
             worker.own_call(CALLS["close"], opened)
             opened = self.open(worker, f"{pid}/fd/{number}", O_PATH | 0o200000)
         opened = self.kept_high(worker, opened)
-        worker.base = opened if opened >= 0 else None
+        worker.base = opened if opened >= 0 else worker.base
         linux = "ok" if opened >= 0 else "ESRCH" if gone else "EBADF" if opened in (-2, -20) else answer(opened)
         self.same("opening of the base", linux, came)
 
