@@ -216,10 +216,10 @@ def of_take(linux, here, step, place):
     put = step.put
     if here != "ENOENT":
         return of_installation(linux, here, step, place)
-    if put.lost_by == "signal":
-        return Known("descriptor-before-signal", True) if linux.isdigit() else None
-    if put.lost_by == "answer" and linux.isdigit():
-        return Known("answer-behind-a-request", True)
+    # the installation is tried there, and may fail
+    is_tried = linux.isdigit() or (linux, put.is_full) == ("EMFILE", True) or (linux, put.is_beyond) == ("EBADF", True)
+    if is_tried and put.lost_by:
+        return Known("descriptor-before-signal" if put.lost_by == "signal" else "answer-behind-a-request", True)
     return Known("request-of-a-gone-call") if put.lost_by == "answer" and linux == "ESRCH" else None
 
 

@@ -39,6 +39,7 @@ class Put:
     asked: Addfd
     is_full: bool = False
     has_others: bool = False  # others were queued with it then
+    is_beyond: bool = False  # the number that it asks for is above the task's limit
     lost_by: str = ""  # `answer` or `signal`
 
 
@@ -235,6 +236,8 @@ class WatchedKernel(Kernel):
     def lose(self, call, by):
         for put in self.puts.values():
             if any(request.asked is put.asked for request in call.queue):
+                limit = self.container.rlimit
+                put.is_full, put.is_beyond = call.task.group.lowest_free(limit) is None, put.asked.newfd >= limit
                 put.lost_by = by
 
     # ---- behind a step that leaves the facts as they were
