@@ -204,8 +204,9 @@ pub fn has_flag(request: &Request, flag: Flag) -> bool
 {
     match (request, flag) {
         (Request::Mount { flags, .. }, Flag::Mount(bit)) => {
-            MountFlags::from_bits_retain(mount_flags(*flags))
-                .intersects(MountFlags::from_bits_retain(bit))
+            MountFlags::from_bits_retain(mount_flags(*flags)).intersects(
+                MountFlags::from_bits_retain(bit),
+            )
         }
         (Request::SetXattr { flags, .. }, Flag::Attribute(bit)) => {
             XattrFlags::from_bits_retain(*flags).intersects(XattrFlags::from_bits_retain(bit))
