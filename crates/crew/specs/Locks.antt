@@ -1,11 +1,13 @@
 -- States behind locks, and the passes that threads have of these.
 use Rattle.std.specs.Prelude.{◌≡◌, ◌<◌, ℕ, true, List, map, Option}
+use Rattle.std.specs.List.{AllZip}
 use Rattle.atomic_table.specs.Seated.{TableId}
 use Rattle.crew.specs.Duties.{MayServe}
 use Rattle.hist_model.specs.Histories.{Seen}
 use Rattle.hist_model.specs.declared.event.Event.{Event}
 use Rattle.hist_model.specs.declared.history.Setup.{Setup}
 use Rattle.turn_lock.specs.Facts.{LockFacts, PassFacts}
+use Rattle.turn_lock.specs.Lists.{Begins}
 
 -- which lock it is, and what was put behind it
 abbrev pub Key : Type 0
@@ -41,7 +43,24 @@ MaySplit p = (p.first ≡ true) × (p.out < 65535)
 abbrev pub MayJoin : PassFacts → Type 0
 MayJoin p = (p.first ≡ true) × (0 < p.out)
 
+-- ---- what passes have seen
+
+abbrev pub seen_of : PassFacts → List Event
+seen_of p = p.seen
+
+-- each history begins with the other one at its place
+abbrev pub BeginEach : List (List Event) → List (List Event) → Type 0
+BeginEach = AllZip Begins
+
+-- each pass has seen all that the other one at its place has
+abbrev pub HaveSeen : List PassFacts → List PassFacts → Type 0
+HaveSeen ps qs = BeginEach (map seen_of ps) (map seen_of qs)
+
 -- ---- the end
+
+-- of what a pass has seen is so what the type behind its lock says of a history where nothing is left to do
+abbrev pub HasEnded : (Setup → List Event → Type 0) → PassFacts → Type 0
+HasEnded ends p = ends p.setup p.seen
 
 -- of the history of a state is so what its type says of one where nothing is left to do
 abbrev pub IsDone : {S : Type 0} → (S → Setup) → (S → Seen) → (Setup → List Event → Type 0) → S → Type 0

@@ -1,8 +1,8 @@
 //! Hands: what each thread of a crew holds, and how it works until all containers are over.
 
-ghost use Rattle.std.specs.Prelude.{◌≡◌, ◌≤◌, ◌<◌, ◌+◌, ℕ, length, map, All, IfOk, IfSome, OnOk};
+ghost use Rattle.std.specs.Prelude.{◌≡◌, ◌≤◌, ◌<◌, ◌+◌, ℕ, [], length, map, vec_capacity, All, IfOk, IfSome, OnErr, OnOk};
 ghost use Rattle.crew.specs.Duties.{MayServe, Takes};
-ghost use Rattle.crew.specs.Locks.{Admits, AreOf, IsFirst, MaySplit, setup_of};
+ghost use Rattle.crew.specs.Locks.{Admits, AreOf, HaveSeen, IsFirst, MaySplit, seen_of, setup_of};
 
 use crate::beside::work_beside;
 use crate::crewed::{Came, Crewed, Turned};
@@ -255,7 +255,9 @@ fn new_hand<S: Crewed>(
     requires own { AreOf locks.now.items firsts.old.items }
     requires may { All MaySplit firsts.old.items }
     ensures own { AreOf locks.now.items firsts.new.items }
+    ensures seen { map seen_of firsts.new.items ≡ map seen_of firsts.old.items }
     ensures first { OnOk result ((n : ℕ) → All (IsFirst n) firsts.old.items → All (IsFirst (n + 1)) firsts.new.items) }
+    ensures none { OnErr result (firsts.new.items ≡ firsts.old.items) }
     ensures hand { IfOk result (λ h. AreOf locks.now.items h.passes.items × (h.turn.worker ≡ duty.worker)) }
 {
     Ok(Hand {
@@ -282,7 +284,36 @@ pub(crate) struct Hands {
     pub(crate) others: Vec<Hand>,
 }
 
-/// A hand for each thread of a crew.
+/// A hand for each thread of a crew, the calling one last; the others are put into a list.
+fn add_hands<S: Crewed>(
+    alloc: Global,
+    locks: &Vec<TurnLock<S>>,
+    firsts: &mut Vec<Pass>,
+    crew: &Crew,
+    others: &mut Vec<Hand>,
+) -> Result<Hand, NoMemory>
+    requires own { AreOf locks.now.items firsts.old.items }
+    requires first { All (IsFirst 0) firsts.old.items }
+    requires few { length crew.now.others.items < 255 }
+    requires may { All (Takes crew.now) (map setup_of locks.now.items) }
+    requires room { (others.old.items ≡ []) × (length crew.now.others.items ≤ vec_capacity others.old) }
+    ensures own { AreOf locks.now.items firsts.new.items }
+    ensures seen { map seen_of firsts.new.items ≡ map seen_of firsts.old.items }
+    ensures first { OnOk result (All (IsFirst (length others.new.items + 1)) firsts.new.items) }
+    ensures fewer { OnErr result (All (IsFirst (length others.new.items)) firsts.new.items) }
+    ensures calling { IfOk result (λ calling. AreOf locks.now.items calling.passes.items × All (Admits calling.turn.worker) locks.now.items) }
+    ensures others { All (λ h. AreOf locks.now.items h.passes.items × All (Admits h.turn.worker) locks.now.items) others.new.items }
+{
+    let count = crew.others.len();
+    for place in 0..count {
+        let hand = new_hand(alloc, locks, firsts, crew.others[place], place)?;
+        others.push_reserved(hand);
+    }
+    let calling = new_hand(alloc, locks, firsts, crew.calling, count)?;
+    Ok(calling)
+}
+
+/// A hand for each thread of a crew. Where there is no memory for one, the passes of the others are taken back.
 pub(crate) fn all_hands<S: Crewed>(
     alloc: Global,
     locks: &Vec<TurnLock<S>>,
@@ -294,18 +325,20 @@ pub(crate) fn all_hands<S: Crewed>(
     requires few { length crew.now.others.items < 255 }
     requires may { All (Takes crew.now) (map setup_of locks.now.items) }
     ensures own { AreOf locks.now.items firsts.new.items }
+    ensures seen { HaveSeen firsts.new.items firsts.old.items }
     ensures first { IfOk result (λ all. All (IsFirst (length all.others.items + 1)) firsts.new.items) }
+    ensures none { OnErr result (All (IsFirst 0) firsts.new.items) }
     ensures calling { IfOk result (λ all. AreOf locks.now.items all.calling.passes.items × All (Admits all.calling.turn.worker) locks.now.items) }
     ensures others { IfOk result (λ all. All (λ h. AreOf locks.now.items h.passes.items × All (Admits h.turn.worker) locks.now.items) all.others.items) }
 {
-    let count = crew.others.len();
-    let mut others = Vec::with_capacity(alloc, count)?;
-    for place in 0..count {
-        let hand = new_hand(alloc, locks, firsts, crew.others[place], place)?;
-        others.push(hand)?;
+    let mut others = Vec::with_capacity(alloc, crew.others.len())?;
+    match add_hands(alloc, locks, firsts, crew, &mut others) {
+        Ok(calling) => Ok(Hands { calling, others }),
+        Err(NoMemory) => {
+            gather_others(locks, firsts, others);
+            Err(NoMemory)
+        }
     }
-    let calling = new_hand(alloc, locks, firsts, crew.calling, count)?;
-    Ok(Hands { calling, others })
 }
 
 /// All hands at work, each in a thread of its own where one can be had. The calling one, which does all kinds of work, is at it in this
@@ -342,6 +375,7 @@ fn gather_others<S: Crewed>(locks: &Vec<TurnLock<S>>, firsts: &mut Vec<Pass>, mu
     requires first { All (IsFirst (length hands.items)) firsts.old.items }
     requires hands { All (λ h. AreOf locks.now.items h.passes.items) hands.items }
     ensures own { AreOf locks.now.items firsts.new.items }
+    ensures seen { HaveSeen firsts.new.items firsts.old.items }
     ensures first { All (IsFirst 0) firsts.new.items }
 {
     while let Some(hand) = hands.pop() {
@@ -362,6 +396,7 @@ pub(crate) fn gather<S: Crewed>(
     requires calling { AreOf locks.now.items calling.passes.items }
     requires others { All (λ h. AreOf locks.now.items h.passes.items) others.items }
     ensures own { AreOf locks.now.items firsts.new.items }
+    ensures seen { HaveSeen firsts.new.items firsts.old.items }
     ensures first { All (IsFirst 0) firsts.new.items }
 {
     let Hand { passes, .. } = calling;

@@ -1,9 +1,10 @@
 //! A crew: threads that serve containers side by side.
 //!
-//! `serve` puts the state of each container behind a lock of its own (`locks`), and the threads of a crew take turns of them (`hands`),
-//! in each one step. What a state is, and what a step of it does, its type says (`Crewed`); what a thread does is a value (`Duty`): it
-//! serves as a worker, receives calls for others, serves a lane of them, or steps tasks. All threads meet at one door, and sleep
-//! there; which containers have work of which kind stands on a board behind it (`door`).
+//! `serve_locked` is lent the locks behind which the states of its containers lie (`locks`), and the threads of a crew take turns of
+//! them (`hands`), in each one step. `serve` puts states behind locks for that. What a state is, and what a step of it does, its
+//! type says (`Crewed`); what a thread does is a value (`Duty`): it serves as a worker, receives calls for others, serves a lane of
+//! them, or steps tasks. All threads meet at one door, and sleep there; which containers have work of which kind stands on a board
+//! behind it (`door`).
 //!
 //! A thread that can't be created begins once another one has ended. So the calling one does all kinds of work as long as some other one
 //! hasn't begun: no thread sleeps while work is left that only threads which haven't begun would do.
@@ -25,5 +26,5 @@ mod work;
 pub use crewed::{Came, Crewed, Turned};
 pub use duty::{Crew, Duty};
 pub use gate::{Gate, OpenGate, Point};
-pub use serving::serve;
+pub use serving::{serve, serve_locked};
 pub use work::Work;

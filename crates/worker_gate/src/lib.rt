@@ -26,5 +26,5 @@ mod serving;
 mod sessions;
 mod steps;
 
-pub use scheduled::{play, play_in_turns};
+pub use scheduled::{play, play_in_turns, play_schedule};
 pub use served::{Played, Served};

@@ -156,7 +156,7 @@ fn take_turn<W: Wait>(
 /// runs.
 ///
 /// Want of memory ends it; the turns that were made stay, and the pass has seen them.
-fn play_schedule<W: Wait>(
+pub fn play_schedule<W: Wait>(
     rt: &W,
     alloc: Global,
     lock: &TurnLock<Served>,

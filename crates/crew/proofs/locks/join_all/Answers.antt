@@ -1,7 +1,9 @@
-use Rattle.std.proofs.Common.{◌≡◌, ◌+◌, ◌<◌, ◌≤◌, List, arith, drop, length, map, sym, subst}
+use Rattle.std.proofs.Common.{◌≡◌, ◌+◌, ◌<◌, ◌≤◌, List, arith, drop, length, map, refl, sym, subst}
 use Rattle.turn_lock.specs.Facts.{IsPassOf, PassFacts}
 use Rattle.crew.proofs.Passes.{at-here, at-others, join-first, next-pass, out-all, out-more, pass-at, pass-less, replaced, same-number}
-use Rattle.crew.specs.Locks.{IsFirst, MayJoin, key, key_of_pass}
+use Rattle.std.proofs.lemmas.List.Elements.{All-nil}
+use Rattle.crew.proofs.Seen.{joined-begins, same-seen, seen-more}
+use Rattle.crew.specs.Locks.{IsFirst, MayJoin, key, key_of_pass, seen_of}
 use Rattle.crew.proofs.locks.join_all.Goals as goal
 
 pub join-requires-clause-own : goal.join-requires-clause-own
@@ -18,6 +20,15 @@ join-requires-clause-first g c =
     let number = same-number c.args.locks.now.items c.loop-place.firsts.items c.loop-place.invariant.own in
     let within : c.loop-place.place < length c.loop-place.firsts.items = omega (arith, c.loop-place-test.true, c.len-place-end.ensures, number) in
     at-here MayJoin c.loop-place.place c.loop-place.firsts.items c.index_mut.result.now within c.index_mut.ensures.value c.loop-place.invariant.may
+
+pub loop-place-init : goal.loop-place-init
+loop-place-init g c = record {
+  own = c.requires.own;
+  may = c.requires.may;
+  first = λ n h. (All-nil (IsFirst n), h);
+  seen = same-seen c.args.firsts.now.items c.args.firsts.now.items refl;
+  passes = c.requires.passes;
+}
 
 pub loop-place-preserved : goal.loop-place-preserved
 loop-place-preserved g c =
@@ -38,6 +49,7 @@ loop-place-preserved g c =
       first = λ n h.
           out-more n (n + 1) place ps new within-firsts
           (join-first n old c.remove-pass.result new c.join.ensures.0 (at-here (IsFirst (n + 1)) place ps old within-firsts c.index_mut.ensures.value (i.first n h).1)) (i.first n h);
+      seen = seen-more ps (map seen_of c.args.firsts.now.items) place old new within-firsts c.index_mut.ensures.value (joined-begins old c.remove-pass.result new c.join.ensures) i.seen;
       passes =
           subst (λ (qs : List PassFacts). map key_of_pass qs ≡ drop (place + 1) (map key ls)) (sym c.remove-pass.ensures.items)
           (pass-less ls place lock within c.index.ensures c.loop-place.passes.items i.passes);

@@ -1,19 +1,20 @@
-use Rattle.std.proofs.Common.{◌≡◌, ◌∙◌, All, ap, arith, length, sym, subst}
-use Rattle.std.proofs.lemmas.List.{length-map}
+use Rattle.std.proofs.Common.{◌∙◌, All, List, map, sym, subst}
 use Rattle.std.proofs.lemmas.Result.{IfOk-weaker}
 use Rattle.crew.specs.Duties.{Takes}
-use Rattle.crew.specs.Locks.{setup_of}
+use Rattle.crew.specs.Locks.{BeginEach, seen_of}
+use Rattle.hist_model.specs.declared.event.Event.{Event}
 use Rattle.crew.proofs.serving.serve.Goals as goal
 
-pub all_hands-requires-clause-may : goal.all_hands-requires-clause-may
-all_hands-requires-clause-may g c = subst (All (Takes c.args.crew.now)) (sym c.in_ok-locks.ensures.setups) c.requires.may
-
-pub work_all-requires-clause-count : goal.work_all-requires-clause-count
-work_all-requires-clause-count g c κs within =
-    let states = c.args.states.items in
-    let locks = c.in_ok-locks.locks.items in
-    let same : length locks ≡ length states = sym (length-map locks setup_of) ∙ ap length c.in_ok-locks.ensures.setups ∙ length-map states g.S.Journalled.setup in
-    omega (arith, same, c.in_ok-door.ensures, c.len-containers.ensures, c.requires.few.0)
+pub serve_locked-requires-clause-may : goal.serve_locked-requires-clause-may
+serve_locked-requires-clause-may g c κs within = subst (All (Takes c.args.crew.now)) (sym c.in_ok-locks.ensures.setups) c.requires.may
 
 pub returns-clause-setups : goal.returns-clause-setups
-returns-clause-setups g c = IfOk-weaker c.finish_all.result _ _ (λ v same. same ∙ c.in_ok-locks.ensures.setups) c.finish_all.ensures.setups
+returns-clause-setups g c = IfOk-weaker c.close_all.result _ _ (λ v same. same ∙ c.in_ok-locks.ensures.setups) c.close_all.ensures.setups
+
+pub returns-clause-begins : goal.returns-clause-begins
+returns-clause-begins g c =
+    let before = map (λ s. (g.S.Journalled.history s).events) c.args.states.items in
+    let served = map seen_of c.serve_locked.new.firsts.items in
+    IfOk-weaker c.close_all.result _ _
+    (λ v same. subst (λ (hs : List (List Event)). BeginEach hs before) (sym same) (subst (λ (hs : List (List Event)). BeginEach served hs) c.in_ok-locks.ensures.seen c.serve_locked.ensures.seen))
+    c.close_all.ensures.seen
