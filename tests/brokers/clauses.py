@@ -116,6 +116,14 @@ class ChecksBefore(Right):
         return self.read(notif)
 
 
+class ReadsTwice(Right):
+    def read(self, notif):
+        # the directory first, and the name when it is needed: another task may write between them
+        path = super().read(notif)
+        name_at = path.rfind(b"/") + 1
+        return path[:name_at] + super().read(notif)[name_at:]
+
+
 class OpensNoDirectory(Right):
     def open(self, notif):
         # a relative path goes from wherever the broker is
@@ -242,9 +250,10 @@ CLAUSES = (
     Shown(MakesInAdvance, "acts_unasked", "no-call", "harm", "one_node"), Shown(MakesAnotherDevice, "makes_other", "other-request", "harm", "one_node"),
     Shown(ReadsNothing, "reads_nothing", "unread", "harm", "one_node"), Shown(ReadsAnother, "reads_another", "other-memory", "harm", "reused", 3),
     Shown(ReadsLate, "reads_late", "stale-copy", "harm", "reused", 3), Shown(ChecksBefore, "checks_before", "unchecked", "order", "one_node"),
-    Shown(OpensNoDirectory, "opens_no_base", "other-base", "harm", "near_node"), Shown(MakesWhatIsDenied, "makes_denied", "ungranted", "harm", "shut_node"),
-    Shown(NeverCounts, "tells_too_often", "spent", "harm", "two_figures"), Shown(MakesAgain, "makes_again", "again", "harm", "restarted", 3),
-    Shown(MakesBehindTheAnswer, "acts_late", "after-answer", "harm", "two_nodes"),
+    Shown(ReadsTwice, "tears", "torn", "harm", "rewritten", 2),
+    Shown(OpensNoDirectory, "opens_no_base", "other-base", "order", "near_node"), Shown(MakesWhatIsDenied, "makes_denied", "ungranted", "harm", "shut_node"),
+    Shown(NeverCounts, "tells_too_often", "spent", "harm", "two_figures"), Shown(MakesAgain, "makes_again", "again", "order", "restarted", 3),
+    Shown(MakesBehindTheAnswer, "acts_late", "after-answer", "order", "two_nodes"),
     Shown(AnswersBehindTheLetGo, "answers_unasked", "no-call", "answer", "one_node"), Shown(AnswersByPid, "answers_another", "other-answer", "harm", "two_nodes"),
     Shown(PassesUnread, "passes_unread", "uncaused", "answer", "one_node"), Shown(DeniesWithAnother, "denies_with_another", "denied-otherwise", "answer", "shut_node"),
     Shown(PassesWhatIsDenied, "passes_denied", "passed-otherwise", "answer", "shut_node"), Shown(TellsUndone, "tells_undone", "granted-not-done", "answer", "one_node"),

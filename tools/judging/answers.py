@@ -22,6 +22,8 @@ class TriedAnswer:
     back: object
     answer: Optional[Fail]
     judge: object
+    # an answer is no effect
+    has_failed = False
 
     @property
     def call(self):
@@ -66,6 +68,12 @@ def other_answer(tried):
     return [Reason(f"the call in hand has the id {tried.call.id}", tried.serving.place)] if tried.id != tried.call.id else None
 
 
+def is_told(test):
+    """A clause of what the caller is told: what the kernel refuses is told to nobody."""
+    return lambda tried: None if tried.answer is not None else test(tried)
+
+
+@is_told
 def uncaused(tried):
     if tried.effect is not None or tried.known or tried.by_registers is not None:
         return None
@@ -113,12 +121,14 @@ def leads_to_pass(tried, copy):
     return rule is not None and rule.verdict == "pass"
 
 
+@is_told
 def denied_otherwise(tried):
     if tried.effect is not None or not isinstance(tried.back, Fail) or any(leads_to_error(tried, copy) for copy in tried.known or [None]):
         return None
     return says(tried)
 
 
+@is_told
 def passed_otherwise(tried):
     if tried.back != CONTINUE:
         return None
@@ -127,6 +137,7 @@ def passed_otherwise(tried):
     return None if any(leads_to_pass(tried, copy) for copy in tried.known or [None]) else says(tried)
 
 
+@is_told
 def granted_not_done(tried):
     if not tried.is_value or (tried.effect is not None and tried.effect.has_succeeded) or tried.remembered is not None:
         return None
@@ -135,6 +146,7 @@ def granted_not_done(tried):
     return [Reason("there was no effect since here", tried.serving.place)]
 
 
+@is_told
 def other_outcome(tried):
     effect = tried.effect
     if tried.is_value:

@@ -21,6 +21,11 @@ class Clause(NamedTuple):
     gravity: Gravity
     broken: str
 
+    def gravity_of(self, has_failed, later=()):
+        """How grave it is that an event breaks it: what breaks the order alone is as grave as the clauses that the event breaks besides, and an effect that failed harms nobody."""
+        gravity = next((it.gravity for it in later), self.gravity) if self.gravity == Gravity.ORDER else self.gravity
+        return Gravity.ORDER if has_failed and gravity == Gravity.HARM else gravity
+
 
 def harm(name, broken):
     return Clause(name, Gravity.HARM, broken)
@@ -38,6 +43,7 @@ UNREAD = harm("unread", "a byte of its texts was never read for this call")
 OTHER_MEMORY = harm("other-memory", "the memory that was open isn't the caller's")
 STALE_COPY = harm("stale-copy", "a text was read when the call was no longer listed")
 UNCHECKED = Clause("unchecked", Gravity.ORDER, "no good check follows what it rests on")
+TORN = harm("torn", "a text of it never stood so in the caller's memory")
 OTHER_BASE = harm("other-base", "its path goes from another directory than the caller's")
 UNGRANTED = harm("ungranted", "the policy doesn't grant just this for just these texts")
 SPENT = harm("spent", "the rule's times were spent")
@@ -60,7 +66,7 @@ ANSWERED_ALREADY = answer("answered-already", "it is the second answer to this c
 UNANSWERED = answer("unanswered", "the call waits, and nothing more is done for it")
 
 CLAUSES = (
-    EFFECT_WITHOUT_CALL, OTHER_REQUEST, UNREAD, OTHER_MEMORY, STALE_COPY, UNCHECKED, OTHER_BASE, UNGRANTED, SPENT, AGAIN, AFTER_ANSWER,
+    EFFECT_WITHOUT_CALL, OTHER_REQUEST, UNREAD, OTHER_MEMORY, STALE_COPY, UNCHECKED, TORN, OTHER_BASE, UNGRANTED, SPENT, AGAIN, AFTER_ANSWER,
     ANSWER_WITHOUT_CALL, OTHER_ANSWER, UNCAUSED, DENIED_OTHERWISE, PASSED_OTHERWISE, GRANTED_NOT_DONE, OTHER_OUTCOME, ANSWERED_ALREADY,
     UNANSWERED,
 )

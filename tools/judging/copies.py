@@ -119,6 +119,14 @@ class Reads:
             missing -= given
         return found
 
+    def stood(self, quality, at, text):
+        """Whether the newest of these reads gave a text at some moment."""
+        reads, wanted = self.at_least(quality), self.bytes_of(at, text)
+        return any(self.newest_from(reads[:count], at, len(wanted)) == list(wanted) for count in range(len(reads), -1, -1))
+
+    def newest_from(self, reads, at, length):
+        return self.newest(self.parts[at], reads)[:length]
+
     # ---- copies
 
     def newest(self, part, reads):

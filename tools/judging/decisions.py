@@ -100,7 +100,8 @@ def rule_by_registers(rules, call):
         possible.append(rule)
         if not any(it.name in OF_TEXTS for it in rule.conditions):
             break
-    return possible[-1] if len({(rule.verdict, rule.error) for rule in possible}) == 1 else None
+    said = {(rule.verdict, rule.error, *((rule.source, rule.place) if rule.verdict == "inject" else ())) for rule in possible}
+    return possible[-1] if len(said) == 1 else None
 
 
 def dirfd_of(call):

@@ -12,9 +12,10 @@ from stepping.rules import Copy as Progress
 from stepping.trees import EBADF
 
 FOREIGN, STALE, FRESH, VALID = 1, 2, 3, 4
+ANY_TEXTS = "any texts"
 UNMAPPED, UNREAD = "unmapped", "unread"
 EFFECTS = ("act", "plant", "addfd-put")
-LATER = (clauses.OTHER_BASE, clauses.UNGRANTED, clauses.SPENT, clauses.AGAIN, clauses.AFTER_ANSWER)
+LATER = (clauses.TORN, clauses.OTHER_BASE, clauses.UNGRANTED, clauses.SPENT, clauses.AGAIN, clauses.AFTER_ANSWER)
 
 
 class Tables(NamedTuple):
@@ -68,8 +69,10 @@ class Watched(Follower):
         return told
 
 
-def alike(verdict, error, other):
-    return (verdict, error) == (other.verdict, other.error)
+def alike(rule, other):
+    """Two rules say the same: of descriptors the same file at the same place."""
+    return (rule.verdict, rule.error, *((rule.source, rule.place) if rule.verdict == "inject" else ())) == (
+        other.verdict, other.error, *((other.source, other.place) if other.verdict == "inject" else ()))
 
 
 class Definition:
@@ -78,7 +81,7 @@ class Definition:
     def __init__(self, watched: Watched):
         self.rules, self.kernel, self.events, self.tables = watched.session.rules, watched.kernel, watched.kernel.events, watched.tables
         self.puts = watched.puts
-        for name in ("session_call", "reads", "is_checked", "effect_of", "has_sent", "is_base_refused", "copies_of", "texts_done", "done_by", "told", "remembered"):
+        for name in ("session_call", "reads", "is_checked", "base_worth", "effect_of", "has_sent", "is_base_refused", "copies_of", "texts_done", "done_by", "told", "remembered"):
             setattr(self, name, lru_cache(maxsize=None)(getattr(self, name)))
 
     # ---- Seats
@@ -120,11 +123,17 @@ class Definition:
                 found = [read._replace(worth=VALID if read.worth == FRESH else read.worth) for read in found]
         return found
 
+    def is_good_check(self, place, event, call):
+        return event.kind == "check" and event.facts[1] is None and call is not None and call.id == event.facts[0]
+
     def is_checked(self, at, seat):
-        return any(
-            event.kind == "check" and event.facts[1] is None and self.session_call(place, seat) is not None and self.session_call(place, seat).id == event.facts[0]
-            for place, event in self.since_receive(at, seat)
-        )
+        """A good check of the call's id follows the receive, and the opening of the memory that the seat has."""
+        for place, event in self.since_receive(at, seat):
+            if event.kind == "open-mem" and event.facts[1] is None:
+                return False
+            if self.is_good_check(place, event, self.session_call(place, seat)):
+                return True
+        return False
 
     def effect_of(self, at, seat):
         return next((place for place, event in self.since_receive(at, seat) if event.kind in EFFECTS), None)
@@ -146,11 +155,24 @@ class Definition:
                     return True
         return False
 
-    def named_then(self, at, seat, group, dirfd):
-        for place, event in self.of_seat(at, seat):
+    def base_now(self, at, seat, call):
+        """How far a directory can be relied on that the seat opens after so many events."""
+        dirfd = None if call is None else base_of(call.number, call.args)
+        own = None if dirfd is None else self.directory_named(at, call.task.group, dirfd)
+        if own is None or own != self.tables[at + 1].base.get(seat):
+            return FOREIGN
+        return FRESH if call in self.tables[at].listed else STALE
+
+    def base_worth(self, at, seat):
+        """The same of the directory that it has now: one that it opened for another call is none of this one."""
+        found = FOREIGN
+        for place, event in reversed(self.since_receive(at, seat)):
+            call = self.session_call(place, seat)
             if event.kind == "open-base" and event.facts[2] is None:
-                return self.directory_named(place, group, dirfd)
-        return None
+                found = self.base_now(place, seat, call)
+            elif found == FRESH and self.is_good_check(place, event, call):
+                found = VALID
+        return found
 
     # ---- SeatCopies
 
@@ -169,6 +191,15 @@ class Definition:
     def gives_text(self, reads, part, text):
         wanted = text + b"\0" if part.is_text else text
         return all(any(self.told_by(read, (part.address + at) % ADDRESSES) == byte for read in reads) for at, byte in enumerate(wanted))
+
+    def stands_at(self, reads, part, text):
+        """The newest of these reads give the text."""
+        wanted = text + b"\0" if part.is_text else text
+        return all(self.newest_at(reads, (part.address + at) % ADDRESSES) == byte for at, byte in enumerate(wanted))
+
+    def stood(self, reads, part, text):
+        """At some moment the newest of the reads until then gave the text."""
+        return any(self.stands_at(reads[at:], part, text) for at in range(len(reads) + 1))
 
     @staticmethod
     def fits_part(part, text):
@@ -229,7 +260,7 @@ class Definition:
         if not any(it.name in decisions.OF_TEXTS for it in rule.conditions):
             return rule
         later = self.by_registers_from(more, request)
-        return later if later is not None and alike(rule.verdict, rule.error, later) else None
+        return later if later is not None and alike(rule, later) else None
 
     # ---- Effects
 
@@ -257,9 +288,13 @@ class Definition:
         if event.kind == "plant":
             return True
         if event.kind == "addfd-put":
-            return bool(self.whole_in(least, at, seat, call))
+            return self.injects_by_registers(call) or bool(self.whole_in(least, at, seat, call))
         reads = self.worth_least(least, at, seat)
         return all(self.gives_text(reads, part, text) for part, text in zip(plan(call.number, call.args), self.texts_of(event)))
+
+    def injects_by_registers(self, call):
+        rule = self.by_registers(call)
+        return rule is not None and rule.verdict == "inject"
 
     def rests_on_nothing(self, at, seat, call, event):
         fits = event.kind != "act" or all(map(self.fits_part, plan(call.number, call.args), self.texts_of(event)))
@@ -269,23 +304,42 @@ class Definition:
         return not self.rests_on(STALE, at, seat, call, event) or (event.kind == "plant" and self.tables[at].memory.get(seat) is not call.task.group)
 
     def is_unchecked(self, at, seat, call, event):
-        return not self.rests_on(VALID, at, seat, call, event) or (not plan(call.number, call.args) and not self.is_checked(at, seat))
+        is_alone = not plan(call.number, call.args) and not self.is_checked(at, seat)
+        return not self.rests_on(VALID, at, seat, call, event) or is_alone or (self.goes_from_base(event) and self.has_base(at, seat) and self.base_worth(at, seat) == FRESH)
+
+    def is_torn(self, at, seat, call, event):
+        """A text that it names never stood so in what was read."""
+        if event.kind != "act":
+            return False
+        texts, parts = self.texts_of(event), plan(call.number, call.args)
+        if tuple(texts) in self.whole_in(VALID, at, seat, call):
+            return False
+        return not any(all(self.stood(self.worth_least(least, at, seat), part, text) for part, text in zip(parts, texts)) for least in (VALID, FRESH))
+
+    @staticmethod
+    def goes_from_base(event):
+        return event.kind == "act" and not decisions.path_of(event.facts[0]).startswith(b"/")
+
+    def has_base(self, at, seat):
+        return self.tables[at].base.get(seat) is not None
 
     def goes_elsewhere(self, at, seat, call, event):
-        if event.kind != "act" or decisions.path_of(event.facts[0]).startswith(b"/"):
+        if not self.goes_from_base(event):
             return False
-        base, dirfd = self.tables[at].base.get(seat), base_of(call.number, call.args)
-        has_own = base is not None and dirfd is not None and base == self.named_then(at, seat, call.task.group, dirfd)
-        return not (has_own or (base is None and self.is_base_refused(at, seat)))
+        return not (self.base_worth(at, seat) >= FRESH if self.has_base(at, seat) else self.is_base_refused(at, seat))
 
     def texts_done(self, at, seat, call, place):
         event = self.events[place]
         if event.kind != "addfd-put":
             return [self.texts_of(event)]
-        return next(filter(None, (self.whole_in(least, at, seat, call) for least in (VALID, FRESH, STALE, FOREIGN))), [])
+        # (where none is whole it rests on registers alone: any texts will do)
+        copied = next(filter(None, (self.whole_in(least, at, seat, call) for least in (VALID, FRESH, STALE, FOREIGN))), [])
+        return copied or [ANY_TEXTS]
 
     def grants_just(self, call, event, texts):
-        rule = self.decided(call, texts)
+        rule = self.by_registers(call) if texts is ANY_TEXTS else self.decided(call, texts)
+        if rule is None:
+            return False
         if event.kind == "addfd-put":
             asked, put = event.facts[0], (rule.source, 0) if rule.place is None else (rule.source, rule.place)
             return rule.verdict == "inject" and (asked.srcfd, asked.newfd) == put and asked.flags & ~SEND == (0 if rule.place is None else SETFD)
@@ -344,7 +398,22 @@ class Definition:
         if earlier is None or earlier is call or earlier in self.tables[at].settled:
             return False
         are_alike = (earlier.task, earlier.number, earlier.args) == (call.task, call.number, call.args)
-        return are_alike and bool(set(texts).intersection(self.texts_done(place, seat, earlier, place)))
+        done = self.texts_done(place, seat, earlier, place)
+        return are_alike and self.is_entered_anew(at, earlier, call) and (done == [ANY_TEXTS] or bool(set(texts).intersection(done)))
+
+    def is_entered_anew(self, at, earlier, call):
+        """From its earlier call to this one the task did nothing else than to enter it again."""
+        name, places = call.task.actor, {}
+        own = [(place, event) for place, event in enumerate(self.events[:at]) if event.actor == name]
+        begun = next(place for place, event in own if self.tables[place + 1].in_call[call.task] is earlier and event.kind == "call")
+        entered = next(place for place, event in own if self.tables[place + 1].in_call[call.task] is call and event.kind == "call")
+        return begun < entered and all(self.enters_again(event, call) for place, event in own if begun < place < entered)
+
+    @staticmethod
+    def enters_again(event, call):
+        if event.kind == "call":
+            return (event.facts[0], tuple(event.facts[1])) == (call.number, tuple(call.args))
+        return event.kind in ("install", "skip") or (event.kind == "deliver" and event.facts[1] in ("restart", "run"))
 
     def remembered(self, at, seat, call):
         texts = self.whole_in(VALID, at, seat, call)
@@ -444,20 +513,23 @@ class Definition:
         yield clauses.OTHER_MEMORY, lambda: self.rests_on_others(at, seat, call, event)
         yield clauses.STALE_COPY, lambda: not self.rests_on(FRESH, at, seat, call, event)
         yield clauses.UNCHECKED, lambda: self.is_unchecked(at, seat, call, event)
+        yield clauses.TORN, lambda: self.is_torn(at, seat, call, event)
         yield clauses.OTHER_BASE, lambda: self.goes_elsewhere(at, seat, call, event)
         yield clauses.UNGRANTED, lambda: self.is_ungranted(at, seat, call, at)
         yield clauses.SPENT, lambda: self.is_too_often(at, call, event)
-        yield clauses.AGAIN, lambda: self.has_effect(at, seat)
+        yield clauses.AGAIN, lambda: self.has_effect(at, seat) and not isinstance(self.outcome_at(at, self.effect_of(at, seat)), Fail)
         yield clauses.AFTER_ANSWER, lambda: self.has_sent(at, seat)
 
     def answer_breaks(self, at, seat, call):
         identifier, back, answer = self.events[at].facts
         yield clauses.OTHER_ANSWER, lambda: call.id != identifier
-        yield clauses.UNCAUSED, lambda: self.has_no_cause(at, seat, call)
-        yield clauses.DENIED_OTHERWISE, lambda: self.denies_otherwise(at, seat, call, back)
-        yield clauses.PASSED_OTHERWISE, lambda: self.passes_otherwise(at, seat, call, back)
-        yield clauses.GRANTED_NOT_DONE, lambda: self.reports_undone(at, seat, call, back)
-        yield clauses.OTHER_OUTCOME, lambda: self.tells_otherwise(at, seat, call, back)
+        if answer is None:
+            # (what the kernel refuses is told to nobody)
+            yield clauses.UNCAUSED, lambda: self.has_no_cause(at, seat, call)
+            yield clauses.DENIED_OTHERWISE, lambda: self.denies_otherwise(at, seat, call, back)
+            yield clauses.PASSED_OTHERWISE, lambda: self.passes_otherwise(at, seat, call, back)
+            yield clauses.GRANTED_NOT_DONE, lambda: self.reports_undone(at, seat, call, back)
+            yield clauses.OTHER_OUTCOME, lambda: self.tells_otherwise(at, seat, call, back)
         yield clauses.ANSWERED_ALREADY, lambda: self.is_second(at, seat, answer)
 
     def call_left(self, at):
@@ -485,20 +557,20 @@ class Definition:
             return None
         seat = int(event.actor[1:])
         call = self.session_call(at, seat)
+        has_failed = event.kind != "send" and isinstance(event.facts[-1], Fail)
         if call is None:
             clause = clauses.ANSWER_WITHOUT_CALL if event.kind == "send" else clauses.EFFECT_WITHOUT_CALL
-            return clause, clause.gravity
+            return clause, clause.gravity_of(has_failed)
         tests = list(self.answer_breaks(at, seat, call) if event.kind == "send" else self.effect_breaks(at, seat, call))
         clause = next((clause for clause, test in tests if test()), None)
         if clause is None:
             return None
-        graver = next((later.gravity for later, test in tests if later in LATER and test()), None) if clause is clauses.UNCHECKED else None
-        return clause, graver or clause.gravity
+        return clause, clause.gravity_of(has_failed, (later for later, test in tests if later in LATER and test()))
 
     def first_fault(self):
         """The place of the least event that breaks a clause, the clause and its class; None where no event does."""
         return next(((at, *found) for at in range(len(self.events)) for found in [self.broken_at(at)] if found is not None), None)
 
     def left_waiting(self):
-        """Whether a call that was received waits at the end."""
-        return bool(self.tables[len(self.events)].waiting)
+        """Whether a call waits at the end, received or not."""
+        return any(not call.is_answered for call in self.tables[len(self.events)].listed)

@@ -21,11 +21,11 @@ class TriedEffect:
     serving: Optional[Serving]
     asked: object
     answer: Optional[Fail]
-    # the directory from which it was done, and where that was opened
+    # the directory from which it was done
     base: Optional[int] = None
-    base_opened_at: Optional[int] = None
     memory: object = None
     content: bytes = b""
+    rules: tuple = ()
 
     @cached_property
     def texts(self):
@@ -39,6 +39,10 @@ class TriedEffect:
             return (self.texts,)
         return next(filter(None, map(self.serving.reads.whole, reversed(Quality))), ())
 
+    @property
+    def goes_from_base(self):
+        return self.kind == ACT and not decisions.path_of(self.asked).startswith(b"/")
+
     @cached_property
     def weakest(self):
         """The byte of its texts with the worst reads: how good the best of them is, the part, the byte, and that read."""
@@ -49,13 +53,24 @@ class TriedEffect:
                 for byte, (quality, read) in enumerate(reads.support(at, text)):
                     if quality < found[0]:
                         found = (quality, at, byte, read)
-        elif self.kind == PUT:
+        elif self.kind == PUT and not self.is_by_registers:
             for quality in (Quality.ANY, Quality.OF_CALLER, Quality.WHILE_LISTED, Quality.CHECKED):
                 if not reads.whole(quality):
                     copy = reads.newest_copy(quality)
                     better = reads.at_least(Quality(quality - 1))
                     return Quality(quality - 1), copy.missing_part, copy.missing_byte, better[-1] if better else None
         return found
+
+    @cached_property
+    def is_by_registers(self):
+        """Whether it is a descriptor's request, and the policy injects one whatever the call's texts are."""
+        rule = decisions.rule_by_registers(self.rules, self.serving.call) if self.kind == PUT else None
+        return rule is not None and rule.verdict == "inject"
+
+    @property
+    def has_failed(self):
+        """Whether nothing was done."""
+        return self.answer is not None
 
     @property
     def is_counted(self):
@@ -127,7 +142,9 @@ def stale_copy(tried, _):
 def unchecked(tried, _):
     reads = tried.serving.reads
     if not reads.parts:
-        return None if reads.checks else [Reason("no check since here", tried.serving.place)]
+        return None if tried.serving.checked_at is not None else [Reason("no check since here", tried.serving.place)]
+    if tried.goes_from_base and tried.base is not None and tried.serving.base == Quality.WHILE_LISTED:
+        return [Reason("no check of the directory that was opened here", tried.serving.base_opened_at)]
     quality, at, byte, read = tried.weakest
     if quality != Quality.WHILE_LISTED:
         return None
@@ -135,17 +152,34 @@ def unchecked(tried, _):
     return [*before, Reason(f"byte {byte} of the {named(tried, at)}", read.place)]
 
 
+def torn(tried, _):
+    """A text never stood so in what was read: at no moment the newest of the reads until then gave it."""
+    reads = tried.serving.reads
+    if tried.kind != ACT or tried.texts in reads.whole(Quality.CHECKED):
+        return None
+    missing = {quality: [at for at, text in enumerate(tried.texts) if not reads.stood(quality, at, text)] for quality in (Quality.CHECKED, Quality.WHILE_LISTED)}
+    if not all(missing.values()):
+        return None
+    at = missing[Quality.CHECKED][0]
+    return [Reason(f"a part of the {named(tried, at)} was read here", read.place) for read in reversed(reads.newest_support(at, tried.texts[at]))]
+
+
 # ---- where it is done
 
 
 def other_base(tried, judge):
-    if tried.kind != ACT or decisions.path_of(tried.asked).startswith(b"/"):
+    if not tried.goes_from_base:
         return None
     serving = tried.serving
     if tried.base is None:
         return None if serving.base_refused_at is not None else [Reason("no directory was opened since here", serving.place)]
-    right = judge.tables.directory(serving.call.task.group, decisions.dirfd_of(serving.call), tried.base_opened_at)
-    return None if right == tried.base else [Reason(f"the call's descriptor {decisions.dirfd_of(serving.call)} leads elsewhere", tried.base_opened_at)]
+    if serving.base >= Quality.WHILE_LISTED:
+        return None
+    if serving.base == Quality.NONE:
+        return [Reason("the directory that it has was opened for another call, before this", serving.place)]
+    if serving.base == Quality.OF_CALLER:
+        return [Reason("here the call left the list", serving.entry.left_at), Reason("the directory was opened here", serving.base_opened_at)]
+    return [Reason(f"the call's descriptor {decisions.dirfd_of(serving.call)} leads elsewhere", serving.base_opened_at)]
 
 
 # ---- the policy
@@ -166,11 +200,11 @@ def readings(tried):
 
 
 def ungranted(tried, judge):
-    rules = [judge.rule_for(tried.serving.call, texts) for texts in tried.all_texts]
+    rules = [judge.rule_for(tried.serving.call, texts) for texts in tried.all_texts] or [decisions.rule_by_registers(judge.rules, tried.serving.call)]
     if any(is_granted(tried, rule, judge) for rule in rules):
         return None
     says = f"rule {rules[0].name} says {rules[0].verdict}"
-    return [*readings(tried), Reason(says if rules[0].verdict not in ("grant", "inject") else f"{says}, but not just this")]
+    return [*(readings(tried) if tried.all_texts else ()), Reason(says if rules[0].verdict not in ("grant", "inject") else f"{says}, but not just this")]
 
 
 def spent(tried, judge):
@@ -185,7 +219,7 @@ def spent(tried, judge):
 
 def again(tried, _):
     effect = tried.serving.effect
-    return None if effect is None else [Reason("the first one", effect.place)]
+    return None if effect is None or effect.has_failed else [Reason("the first one", effect.place)]
 
 
 def after_answer(tried, _):
@@ -195,6 +229,6 @@ def after_answer(tried, _):
 
 ABOUT_CALL = ((clauses.EFFECT_WITHOUT_CALL, no_call), (clauses.OTHER_REQUEST, other_request))
 OF_CALL = (
-    (clauses.UNREAD, unread), (clauses.OTHER_MEMORY, other_memory), (clauses.STALE_COPY, stale_copy), (clauses.UNCHECKED, unchecked), (clauses.OTHER_BASE, other_base),
+    (clauses.UNREAD, unread), (clauses.OTHER_MEMORY, other_memory), (clauses.STALE_COPY, stale_copy), (clauses.UNCHECKED, unchecked), (clauses.TORN, torn), (clauses.OTHER_BASE, other_base),
     (clauses.UNGRANTED, ungranted), (clauses.SPENT, spent), (clauses.AGAIN, again), (clauses.AFTER_ANSWER, after_answer),
 )

@@ -27,6 +27,10 @@ class Mistake(Enum):
 
     RELIES_ON_LESS = "relies on reads that no good check follows"
     OPENS_NO_BASE = "opens no directory"
+    OPENS_BASE_LATE = "opens the directory behind its last check"
+    KEEPS_BASE = "receives again with the directory open that it had"
+    OPENS_MEMORY_LATE = "opens the memory behind the check of a call without texts"
+
     KEEPS_MEMORY = "receives again with the memory open that it had"
     PASSES = "passes what is to be done or denied"
     DENIES = "denies with an error of its own"
@@ -49,6 +53,7 @@ class Manner:
     piece: int
     puts_apart: bool
     asks_registers: bool
+    retries: bool = False
     mistake: Optional[Mistake] = None
     # the worst reads that it relies on
     trusts: Quality = Quality.CHECKED
@@ -56,6 +61,7 @@ class Manner:
     is_over: bool = False
     has_base: bool = False
     reads: int = 0
+    tries: int = 0
     newest: list = field(default_factory=list)
 
     def errs(self, *mistakes):
@@ -130,6 +136,7 @@ class FreeWorkers(Chooser):
     def take(self, seat, event):
         if event.kind == "recv" and not isinstance(event.facts[0], Fail):
             self.notifs[seat], self.manners[seat] = event.facts[0], self.manner()
+            self.manners[seat].has_base = self.manners[seat].errs(Mistake.KEEPS_BASE) and self.kernel.worker(seat).base is not None
             self.is_right &= self.manners[seat].mistake is None
             return
         if event.kind == "let-go":
@@ -146,7 +153,7 @@ class FreeWorkers(Chooser):
 
     def manner(self):
         chance = self.chance
-        found = Manner(chance.random() < 0.6, chance.choice((PIECE, PIECE, 1, 4, 4096)), chance.random() < 0.4, chance.random() < 0.5)
+        found = Manner(chance.random() < 0.6, chance.choice((PIECE, PIECE, 1, 4, 4096)), chance.random() < 0.4, chance.random() < 0.5, chance.random() < 0.5)
         if chance.random() < 0.8:
             found.mistake = self.mistake
         if found.errs(Mistake.RELIES_ON_LESS, Mistake.KEEPS_MEMORY):
@@ -167,6 +174,8 @@ class FreeWorkers(Chooser):
         rule = decisions.rule_by_registers(self.judge.rules, serving.call)
         if manner.asks_registers and rule is not None and rule.verdict in ("deny", "pass"):
             return self.sending(notif, CONTINUE if rule.verdict == "pass" else Fail(rule.error))
+        if manner.asks_registers and rule is not None and rule.verdict == "inject":
+            return self.decided(serving, (b"",) * len(serving.reads.parts))
         return self.opening(seat, manner, notif) or self.copying(serving, manner, notif)
 
     def ending(self, serving, manner, notif):
@@ -177,12 +186,17 @@ class FreeWorkers(Chooser):
             return self.deed(serving, self.texts_now(serving)) or "let-go"
         if self.judge.waits(serving.call) and not serving.was_answered:
             return f"check {notif.id}"
-        return "recv" if manner.errs(Mistake.KEEPS_MEMORY) else "let-go"
+        return "recv" if manner.errs(Mistake.KEEPS_MEMORY, Mistake.KEEPS_BASE) else "let-go"
 
     def opening(self, seat, manner, notif):
         dirfd = base_of(notif.number, notif.args)
+        serving = self.judge.servings[seat]
+        if manner.errs(Mistake.OPENS_MEMORY_LATE) and not serving.reads.parts and not serving.reads.checks:
+            return f"check {notif.id}"
         if self.kernel.worker(seat).memory is None:
             return f"open-mem {notif.pid}"
+        if manner.errs(Mistake.OPENS_BASE_LATE) and not (serving.reads.checks and any(copy.is_known for copy in serving.valid_copies())):
+            return None
         if dirfd is not None and not manner.has_base and not manner.errs(Mistake.OPENS_NO_BASE):
             return f"open-base {notif.pid} {dirfd}"
         return None
@@ -248,7 +262,10 @@ class FreeWorkers(Chooser):
         """What is asked or answered behind an effect."""
         notif, manner, outcome = self.notifs[seat], self.manners[seat], effect.outcome
         if manner.errs(Mistake.DOES_AGAIN):
-            return self.deed(serving, effect.all_texts[0])
+            return self.deed(serving, (effect.all_texts or ((b"",) * len(serving.reads.parts),))[0])
+        if manner.retries and effect.has_failed and effect.kind == "addfd-put" and self.kernel.worker(seat).request is None and effect.outcome != Fail(ENOENT) and manner.tries < 3:
+            manner.tries += 1
+            return self.deed(serving, (effect.all_texts or ((b"",) * len(serving.reads.parts),))[0])
         if effect.kind != "addfd-put":
             return self.sending(notif, WRONG_ERROR if manner.errs(Mistake.HIDES) else outcome)
         if self.kernel.worker(seat).request is not None:

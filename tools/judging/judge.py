@@ -4,8 +4,8 @@ from functools import lru_cache
 from typing import Dict, List, Optional
 
 from judging import answers, clauses, decisions, effects
-from judging.clauses import Clause, Gravity
-from judging.copies import Read, Reads
+from judging.clauses import Clause
+from judging.copies import Quality, Read, Reads
 from judging.effects import ACT, PLANT, PUT, TriedEffect
 from judging.faults import Fault, Reason
 from judging.servings import Effect, Entry, Serving
@@ -48,6 +48,8 @@ class Judge:
         self.entries: Dict[Call, Entry] = {}
         # how many calls each task has entered
         self.entered: Dict[Task, int] = {}
+        # of each task that did nothing since but to enter a call again, where it entered it first, and the call
+        self.begun: Dict[Task, tuple] = {}
         self.servings: Dict[int, Serving] = {}
         # of each task the listed call in which it waits
         self.entered_in: Dict[Task, Call] = {}
@@ -56,9 +58,8 @@ class Judge:
         self.decided: Dict[tuple, Rule] = {} if decided is None else decided
         # of each rule with a limit the places of the effects that have spent its times
         self.times: Dict[str, List[int]] = {}
-        # where each worker has opened the memory and the directory that it has
+        # where each worker has opened the memory that it has
         self.opened_memory: Dict[int, int] = {}
-        self.opened_base: Dict[int, int] = {}
 
     def hear(self):
         """Takes the newest event of the kernel, if it is one that wasn't taken yet."""
@@ -83,10 +84,15 @@ class Judge:
     # ---- tasks
 
     def take_of_task(self, place, task, kind, facts):
+        if kind not in ("call", "install", "skip") and not (kind == "deliver" and facts[1] in ("restart", "run")):
+            self.begun.pop(task, None)
         if kind == "call":
             ordinal = self.entered[task] = self.entered.get(task, 0) + 1
+            begun = self.begun.get(task)
+            if begun is None or begun[1] != (facts[0], tuple(facts[1])):
+                begun = self.begun[task] = (place, (facts[0], tuple(facts[1])))
             if task.call is not None:
-                self.entries[task.call] = Entry(place, ordinal)
+                self.entries[task.call] = Entry(place, ordinal, begun[0])
                 self.entered_in[task] = task.call
         elif kind in ("resume", "deliver"):
             self.note_leaving(place, task)
@@ -112,7 +118,7 @@ class Judge:
         if kind == "recv":
             self.receive(place, worker, facts[0])
         elif kind == "open-mem":
-            self.note_memory(place, worker, facts[1])
+            self.note_memory(place, worker, serving, facts[1])
         elif kind == "open-base":
             self.note_base(place, worker, facts[1], facts[2])
         elif kind == "check":
@@ -139,21 +145,35 @@ class Judge:
         if serving is not None:
             self.test_waiting(place, serving.call)
 
-    def note_memory(self, place, worker, answer):
+    def note_memory(self, place, worker, serving, answer):
         if answer is None:
             self.opened_memory[worker] = place
+            if serving is not None:
+                serving.checked_at = None
 
     def note_base(self, place, worker, dirfd, answer):
         serving = self.servings.get(worker)
         if answer is None:
-            self.opened_base[worker] = place
+            if serving is not None:
+                serving.base, serving.base_opened_at = self.base_now(serving, self.kernel.worker(worker).base, place), place
         elif serving is not None and answer.number == EBADF and dirfd == decisions.dirfd_of(serving.call):
             if self.tables.directory(serving.call.task.group, dirfd, place) is None:
                 serving.base_refused_at = place
 
+    def base_now(self, serving, base, place):
+        """How far a directory can be relied on that is opened now."""
+        dirfd = decisions.dirfd_of(serving.call)
+        own = None if dirfd is None else self.tables.directory(serving.call.task.group, dirfd, place)
+        if own is None or own != base:
+            return Quality.ANY
+        return Quality.WHILE_LISTED if serving.call.is_listed else Quality.OF_CALLER
+
     def note_check(self, place, serving, identifier, answer):
         if serving is not None and answer is None and identifier == serving.call.id:
             serving.reads.checks.append(place)
+            serving.checked_at = place
+            if serving.base == Quality.WHILE_LISTED:
+                serving.base = Quality.CHECKED
 
     def memory_opened_at(self, worker):
         return self.opened_memory.get(worker)
@@ -178,7 +198,7 @@ class Judge:
 
     def take_effect(self, place, worker, kind, facts, content):
         serving, of_worker = self.servings.get(worker), self.kernel.worker(worker)
-        tried = TriedEffect(place, kind, serving, facts[0], facts[-1], of_worker.base, self.opened_base.get(worker), of_worker.memory, content)
+        tried = TriedEffect(place, kind, serving, facts[0], facts[-1], of_worker.base, of_worker.memory, content, self.rules)
         self.counts.effects += 1
         self.counts.answers += kind == PUT and facts[0].flags & SEND != 0
         if not self.test(tried, effects.ABOUT_CALL, self) and not self.test(tried, effects.OF_CALL, self):
@@ -211,20 +231,19 @@ class Judge:
             effect for effect in self.effects
             if effect.call is not call and effect.call.task is call.task and (effect.call.number, effect.call.args) == (call.number, call.args)
         )
-        texts = {copy.texts for copy in copies if copy.texts is not None}
-        return next((it for it in alike if texts.intersection(it.all_texts) and it.has_succeeded and it.used_at is None and it.call.back is None), None)
+        texts, first = {copy.texts for copy in copies if copy.texts is not None}, self.entries[call].first
+        alike = (it for it in alike if first <= self.entries[it.call].place < self.entries[call].place)
+        return next((it for it in alike if (it.all_texts == () or texts.intersection(it.all_texts)) and it.has_succeeded and it.used_at is None and it.call.back is None), None)
 
     # ---- what is found
 
     def test(self, tried, table, *more):
-        """Finds the first clause of a table that is broken, and whether there is one. What breaks only the order is as grave as what breaks behind it."""
+        """Finds the first clause of a table that is broken, and whether there is one. The class is that of the event."""
         broken = ((clause, reasons) for clause, test in table for reasons in [test(tried, *more)] if reasons is not None)
         clause, reasons = next(broken, (None, None))
         if clause is None:
             return False
-        gravity = clause.gravity
-        if gravity == Gravity.ORDER:
-            gravity = next((later.gravity for later, _ in broken), gravity)
+        gravity = clause.gravity_of(tried.has_failed, (later for later, _ in broken))
         self.find(tried.place, clause, tried.serving.call if tried.serving else None, reasons, gravity)
         return True
 
@@ -242,15 +261,15 @@ class Judge:
         return call.is_listed and call.is_waiting and not self.kernel.is_closed
 
     def left(self):
-        """The oldest call that the broker has received and that waits."""
-        return next((call for call in self.kernel.calls if self.waits(call)), None)
+        """The oldest call that waits for an answer, whether it was received or not."""
+        return None if self.kernel.is_closed else next((call for call in self.kernel.calls if call.is_listed and not call.is_answered), None)
 
     def note_idle(self):
-        """The broker does nothing more by itself: each call that it has received is answered, or has gone."""
+        """The broker does nothing more by itself: each call is answered, or has gone."""
         waiting = self.left()
         if self.fault is None and waiting is not None:
             received = next((serving.place for serving in self.servings.values() if serving.call is waiting), None)
-            reasons = [Reason("it was received here", received)] if received is not None else []
+            reasons = [Reason("it was received here", received)] if received is not None else [] if waiting.is_fetched else [Reason("nobody has received it")]
             self.find(len(self.kernel.events) - 1, clauses.UNANSWERED, waiting, reasons)
 
     def head(self, is_idle):

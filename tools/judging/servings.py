@@ -36,6 +36,10 @@ class Effect:
         return self.request.answer
 
     @property
+    def has_failed(self):
+        return isinstance(self.outcome, Fail)
+
+    @property
     def has_succeeded(self):
         return self.outcome is not None and not isinstance(self.outcome, Fail)
 
@@ -61,6 +65,8 @@ class Entry:
 
     place: int
     ordinal: int
+    # the first call of its task that was entered anew up to this one
+    first: int = 0
     left_at: Optional[int] = None
 
 
@@ -75,6 +81,11 @@ class Serving:
     reads: Reads
     effect: Optional[Effect] = None
     answered_at: Optional[int] = None
+    # the good check behind the opening of the memory that it has
+    checked_at: Optional[int] = None
+    # how far the directory that it has opened for this call can be relied on, and where it was opened
+    base: Quality = Quality.NONE
+    base_opened_at: Optional[int] = None
     # where the call's descriptor led to no directory, and the worker was told so
     base_refused_at: Optional[int] = None
 

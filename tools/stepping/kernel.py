@@ -43,7 +43,11 @@ class Call:
 
     @property
     def is_waiting(self):
-        return self.is_fetched and self.back is None and not any(request.asked.flags & SEND for request in self.queue)
+        return self.is_fetched and not self.is_answered
+
+    @property
+    def is_answered(self):
+        return self.back is not None or any(request.asked.flags & SEND for request in self.queue)
 
 
 @dataclass(eq=False)

@@ -7,4 +7,5 @@ pub mod Known
 pub mod Laid
 pub mod Planned
 pub mod Quiet
+pub mod Standing
 pub mod Written

@@ -3,4 +3,5 @@ pub mod Copied
 pub mod Reads
 pub mod Registers
 pub mod Said
+pub mod Stood
 pub mod Texts

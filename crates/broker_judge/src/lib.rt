@@ -1,6 +1,7 @@
 //! What a judge of brokers finds out of one event of a history of the kernel.
 //!
-//! Which copies a seat's reads make of a call's arguments (`copies`), how far texts rest on these reads (`texts`), whether an effect asks
+//! Which copies a seat's reads make of a call's arguments (`copies`), how far texts rest on these reads (`texts`), whether they
+//! stood so (`stood`), whether an effect asks
 //! for what its call asks for, and a rule grants just it (`granting`), and what a policy says of an answer (`said`).
 //!
 //! This layer keeps no history. It is told the call that a seat has in hand, the seat's reads, and how often effects of each rule were
@@ -17,4 +18,5 @@ pub mod laws;
 pub mod reads;
 pub mod registers;
 pub mod said;
+pub mod stood;
 pub mod texts;

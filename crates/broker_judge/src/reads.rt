@@ -40,7 +40,7 @@ impl Worth {
     }
 
     /// The same behind a good check.
-    fn validated(self) -> Worth
+    pub fn validated(self) -> Worth
         ensures { worth_of result ≡ validated (worth_of self) }
     {
         match self {

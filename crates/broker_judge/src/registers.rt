@@ -2,7 +2,7 @@
 
 ghost use Rattle.std.specs.Prelude.{◌≡◌, ◌&&◌, ◌||◌};
 ghost use Rattle.std.specs.List.{list_all, list_any};
-ghost use Rattle.broker_verdict.specs.Choices.{by_registers_from, is_of_texts, looks_at_texts, may_fit, says_alike};
+ghost use Rattle.broker_verdict.specs.Choices.{by_registers_from, injects, is_of_texts, looks_at_texts, may_fit, place_eq, says_alike};
 ghost use Rattle.hist_model.specs.Decisions.{meets};
 ghost use Rattle.broker_judge.specs.Registers.{joined, led};
 
@@ -38,6 +38,16 @@ pub fn by_registers(policy: &Policy, request: &Request) -> Option<(usize, Verdic
         }
     }
     led(&said, rules.len(), &Verdict::Pass)
+}
+
+/// Whether the policy has one descriptor put in whatever the texts of the call are, whose request is given without them.
+pub fn injects_by_registers(policy: &Policy, request: &Request) -> bool
+    ensures { result ≡ injects (by_registers_from 0 policy.now.rules request.now) }
+{
+    match by_registers(policy, request) {
+        Some((_, Verdict::Inject { .. })) => true,
+        _ => false,
+    }
 }
 
 /// Whether some texts may make the rule fit the request.
@@ -89,7 +99,7 @@ fn says_alike(a: &Verdict, b: &Verdict) -> bool
         Verdict::Grant => matches!(b, Verdict::Grant),
         Verdict::Deny(error) => denies_with(b, error),
         Verdict::Pass => matches!(b, Verdict::Pass),
-        Verdict::Inject { .. } => matches!(b, Verdict::Inject { .. }),
+        Verdict::Inject { src, at } => puts_in(b, *src, *at),
     }
 }
 
@@ -99,6 +109,30 @@ fn denies_with(verdict: &Verdict, error: &Errno) -> bool
 {
     match verdict {
         Verdict::Deny(other) => error == other,
+        _ => false,
+    }
+}
+
+/// Whether the verdict has this file of the broker's put in, at the same number or at whichever is free.
+fn puts_in(verdict: &Verdict, src: u32, at: Option<u32>) -> bool
+    ensures { result ≡ says_alike (Verdict.Inject src at) verdict.now }
+{
+    match verdict {
+        Verdict::Inject {
+            src: other,
+            at: place,
+        } => src == *other && is_place(at, *place),
+        _ => false,
+    }
+}
+
+/// Whether two numbers that may be left out are one.
+fn is_place(at: Option<u32>, place: Option<u32>) -> bool
+    ensures { result ≡ place_eq at place }
+{
+    match (at, place) {
+        (Some(at), Some(place)) => at == place,
+        (None, None) => true,
         _ => false,
     }
 }

@@ -11,7 +11,7 @@ use Rattle.broker_verdict.specs.Trusted.{at_place, breaks, broken_at, clauses, f
 use Rattle.broker_verdict.specs.Verdicts.{IsFirstBroken, Tells}
 use Rattle.broker_verdict.specs.declared.clause.Clause.{Clause}
 use Rattle.broker_verdict.specs.declared.clause.Clause.TheVariants.{EffectWithoutCall, OtherRequest, Unread, OtherMemory, StaleCopy}
-use Rattle.broker_verdict.specs.declared.clause.Clause.TheVariants.{Unchecked, OtherBase, Ungranted, Spent, Again, AfterAnswer}
+use Rattle.broker_verdict.specs.declared.clause.Clause.TheVariants.{Unchecked, Torn, OtherBase, Ungranted, Spent, Again, AfterAnswer}
 use Rattle.broker_verdict.specs.declared.clause.Clause.TheVariants.{AnswerWithoutCall, OtherAnswer, Uncaused, DeniedOtherwise}
 use Rattle.broker_verdict.specs.declared.clause.Clause.TheVariants.{PassedOtherwise, GrantedNotDone, OtherOutcome, AnsweredAlready}
 use Rattle.broker_verdict.specs.declared.clause.Clause.TheVariants.{Unanswered}
@@ -31,20 +31,21 @@ asked Unread = there (there here)
 asked OtherMemory = there (there (there here))
 asked StaleCopy = there (there (there (there here)))
 asked Unchecked = there (there (there (there (there here))))
-asked OtherBase = there (there (there (there (there (there here)))))
-asked Ungranted = there (there (there (there (there (there (there here))))))
-asked Spent = there (there (there (there (there (there (there (there here)))))))
-asked Again = there (there (there (there (there (there (there (there (there here))))))))
-asked AfterAnswer = there (there (there (there (there (there (there (there (there (there here)))))))))
-asked AnswerWithoutCall = there (there (there (there (there (there (there (there (there (there (there here))))))))))
-asked OtherAnswer = there (there (there (there (there (there (there (there (there (there (there (there here)))))))))))
-asked Uncaused = there (there (there (there (there (there (there (there (there (there (there (there (there here))))))))))))
-asked DeniedOtherwise = there (there (there (there (there (there (there (there (there (there (there (there (there (there here)))))))))))))
-asked PassedOtherwise = there (there (there (there (there (there (there (there (there (there (there (there (there (there (there here))))))))))))))
-asked GrantedNotDone = there (there (there (there (there (there (there (there (there (there (there (there (there (there (there (there here)))))))))))))))
-asked OtherOutcome = there (there (there (there (there (there (there (there (there (there (there (there (there (there (there (there (there here))))))))))))))))
-asked AnsweredAlready = there (there (there (there (there (there (there (there (there (there (there (there (there (there (there (there (there (there here)))))))))))))))))
-asked Unanswered = there (there (there (there (there (there (there (there (there (there (there (there (there (there (there (there (there (there (there here))))))))))))))))))
+asked Torn = there (there (there (there (there (there here)))))
+asked OtherBase = there (there (there (there (there (there (there here))))))
+asked Ungranted = there (there (there (there (there (there (there (there here)))))))
+asked Spent = there (there (there (there (there (there (there (there (there here))))))))
+asked Again = there (there (there (there (there (there (there (there (there (there here)))))))))
+asked AfterAnswer = there (there (there (there (there (there (there (there (there (there (there here))))))))))
+asked AnswerWithoutCall = there (there (there (there (there (there (there (there (there (there (there (there here)))))))))))
+asked OtherAnswer = there (there (there (there (there (there (there (there (there (there (there (there (there here))))))))))))
+asked Uncaused = there (there (there (there (there (there (there (there (there (there (there (there (there (there here)))))))))))))
+asked DeniedOtherwise = there (there (there (there (there (there (there (there (there (there (there (there (there (there (there here))))))))))))))
+asked PassedOtherwise = there (there (there (there (there (there (there (there (there (there (there (there (there (there (there (there here)))))))))))))))
+asked GrantedNotDone = there (there (there (there (there (there (there (there (there (there (there (there (there (there (there (there (there here))))))))))))))))
+asked OtherOutcome = there (there (there (there (there (there (there (there (there (there (there (there (there (there (there (there (there (there here)))))))))))))))))
+asked AnsweredAlready = there (there (there (there (there (there (there (there (there (there (there (there (there (there (there (there (there (there (there here))))))))))))))))))
+asked Unanswered = there (there (there (there (there (there (there (there (there (there (there (there (there (there (there (there (there (there (there (there here)))))))))))))))))))
 
 -- where none of a list is broken, each is kept
 none-broken : (f : Clause → Bool) (L : List Clause) (clause : Clause) → first_broken f L ≡ None → Among clause L → f clause ≡ false
@@ -65,6 +66,7 @@ trusted-kept P S K t Unread = t.read
 trusted-kept P S K t OtherMemory = t.own_memory
 trusted-kept P S K t StaleCopy = t.read_in_time
 trusted-kept P S K t Unchecked = t.checked
+trusted-kept P S K t Torn = t.untorn
 trusted-kept P S K t OtherBase = t.own_base
 trusted-kept P S K t Ungranted = t.granted
 trusted-kept P S K t Spent = t.within_times
@@ -88,6 +90,7 @@ kept-trusted P S K k = record {
   own_memory = k OtherMemory;
   read_in_time = k StaleCopy;
   checked = k Unchecked;
+  untorn = k Torn;
   own_base = k OtherBase;
   granted = k Ungranted;
   within_times = k Spent;

@@ -1,6 +1,6 @@
 -- This project's own workers go from the directory that the call's descriptor named when they opened it.
 -- By induction on the steps since the call was fetched: what is opened while the call is listed is its task's.
-use Rattle.mediation.proofs.Common.{[], Act, Actor, and_parts, any_of, ap, arith, base, base_after, base_answer, base_of, Bool, caller, cases_Bool, Check, checks, eq-eqb, Err, ev, Event, event_at-older, false, Files, files}
+use Rattle.mediation.proofs.Common.{[], Act, Actor, and_parts, any_of, ap, arith, base, base_after, base_answer, base_of, Bool, cases_Bool, Check, checks, eq-eqb, Err, ev, Event, false, Files, files}
 use Rattle.mediation.proofs.Common.{gives_up, group, holder, if◌then◌else◌, inl, inr, is_good_check, is_worker, IsLegal, length, LetGo, List, listed, None, not, Notif, notif, Ok, OpenBase, opened, opens_base, Option}
 use Rattle.mediation.proofs.Common.{or_parts, place_or, Policy, refl, Result, Rules, rules_of, Script, session, session_call, skips, Some, sym, System, system_of, true, What, ℕ, ℤ, ended, name_of, after_native}
 use Rattle.mediation.proofs.Common.{◌&&◌, ◌<◌, ◌==◌, ◌^◌, ◌||◌, ◌∙◌, ◌∷◌, ◌≡◌, ◌⊎◌, number_of}
@@ -13,7 +13,7 @@ use Rattle.hist_model.specs.declared.policy.Rule.{Rule}
 use Rattle.hist_model.specs.declared.request.Request.TheVariants.{Mount}
 use Rattle.sys_abi.specs.Calls.{nr_mknod, nr_mknodat, nr_mount, nr_openat, nr_setxattr, nr_sysinfo}
 use Rattle.broker_verdict.proofs.LegalClauses.{keeps, none-some}
-use Rattle.broker_verdict.proofs.LegalGrants.{act-is, uses}
+use Rattle.broker_verdict.proofs.LegalGrants.{act-is, Uses, uses}
 use Rattle.broker_verdict.specs.Choices.{decided}
 use Rattle.broker_verdict.specs.Trusted.{Keeps, seat_breaks}
 use Rattle.broker_verdict.specs.declared.clause.Clause.TheVariants.{OtherBase}
@@ -23,52 +23,48 @@ use Rattle.std.specs.Ordering.{int_eq}
 use Rattle.std.proofs.lemmas.Bool.Decides.{Decides-int_eq}
 use Rattle.sys_abi.specs.Errnos.{ebadf, esrch}
 use Rattle.history_frames.proofs.Listed.{is_call-below}
-use Rattle.hist_model.specs.Memory.{group_named}
 use Rattle.hist_model.specs.Natives.{NativeStep}
 use Rattle.hist_model.specs.Tasks.{is_none}
-use Rattle.mediation.proofs.Handles.{check-listed, good-check, opens-own, steady}
+use Rattle.mediation.proofs.Handles.{check-listed, good-check, opens-own}
 use Rattle.mediation.proofs.Hands.{by-session, FetchKept, in-hand-of, InSession, moved, still, StillKept, worker-row, WorkKept, works}
 use Rattle.mediation.proofs.Order.{is-own, ordered}
 use Rattle.mediation.proofs.Rows.{AtWork, by-few-steps, HasOpened, Row, WorkerRow}
 use Rattle.hist_model.specs.Decisions.{path_of}
 use Rattle.hist_model.specs.declared.policy.Cap.{Cap}
 use Rattle.hist_model.specs.declared.request.Request.{Request}
-use Rattle.broker_verdict.specs.Effects.{goes_elsewhere, has_none, has_own_base, is_base, is_relative}
+use Rattle.broker_verdict.specs.Effects.{base_is_unchecked, goes_elsewhere, has_base, has_none, is_relative}
 use Rattle.mediation.proofs.Tasks.{listed-was}
-use Rattle.broker_verdict.specs.Seats.{args_of, directory_named, dirfd_of_call, is_base_refused, named_then, nr_of, opens_directory, refused_after, request_with}
+use Rattle.broker_verdict.specs.Seats.{args_of, base_now, base_worth, base_worth_after, directory_named, directory_opened, dirfd_of_call, Fresh, is_base, is_base_refused, is_own_id, nr_of, refused_after, request_with, Valid, validated, Worth}
+use Rattle.broker_verdict.proofs.LegalSeats.{own-check}
 
 int-same : (z : ℤ) → int_eq z z ≡ true
 int-same z = grind (arith, Decides-int_eq)
 
 -- the base that the files have for a worker
-pub base-in : Script → List Event → ℕ → Option ℕ
+unfoldable pub base-in : Script → List Event → ℕ → Option ℕ
 base-in S K w = (files S K).base w
 
 native-same : (F : Files) (g : ℕ) (s : NativeStep) (w : ℕ) → (after_native F g s).base w ≡ F.base w
 native-same F g s w = grind arith
 
 -- the step opens or drops a base
-abbrev moves : What → Bool
+abbrev pub moves : What → Bool
 moves (OpenBase p d (Ok u)) = true
 moves LetGo = true
 moves _ = false
 
-base-same : (S : Script) (e : Event) (K : List Event) (w : ℕ) → (is_worker e.who w && moves e.what) ≡ false → base-in S (e ∷ K) w ≡ base-in S K w
+pub base-same : (S : Script) (e : Event) (K : List Event) (w : ℕ) → (is_worker e.who w && moves e.what) ≡ false → base-in S (e ∷ K) w ≡ base-in S K w
 unfolding base-in files
 base-same S e K w h = grind (arith, native-same)
 
-base-opens : (S : Script) (K : List Event) (a : Actor) (w p : ℕ) (d : ℤ) (u : Unit {0}) → is_worker a w ≡ true
+pub base-opens : (S : Script) (K : List Event) (a : Actor) (w p : ℕ) (d : ℤ) (u : Unit {0}) → is_worker a w ≡ true
     → base-in S (ev a (OpenBase p d (Ok u)) ∷ K) w ≡ base_of S (files S K) (place_or (opened K (holder K p))) d
 unfolding base-in files
 base-opens S K a w p d u h = grind arith
 
-named-same : (S : Script) (e : Event) (K : List Event) (w g : ℕ) (d : ℤ) → (is_worker e.who w && opens_directory e.what) ≡ false → named_then S (e ∷ K) w g d ≡ named_then S K w g d
-unfolding named_then
-named-same S e K w g d h = rw h refl
-
-named-opens : (S : Script) (K : List Event) (a : Actor) (w p g : ℕ) (d x : ℤ) (u : Unit {0}) → is_worker a w ≡ true → named_then S (ev a (OpenBase p x (Ok u)) ∷ K) w g d ≡ base_of S (files S K) g d
-unfolding named_then
-named-opens S K a w p g d x u h = rw h refl
+worth-mine : (S : Script) (K : List Event) (a : Actor) (w : ℕ) (what : What) → is_worker a w ≡ true → base_worth S (ev a what ∷ K) w ≡ base_worth_after S K w what (base_worth S K w)
+unfolding base_worth
+worth-mine S K a w what q = rw q refl
 
 -- an opening that was answered ok found a directory of a living task
 record IsOpening (S : Script) (K : List Event) (p : ℕ) (d : ℤ) : Type 0 where
@@ -141,74 +137,149 @@ module _ (P : Policy) (S : Script) where
   abbrev T : System
   T = system_of S
 
-  -- what the seat has as its base is what the call's descriptor named in the group in which it was opened
-  abbrev Named : List Event → ℕ → ℕ → Type 0
-  Named K w c = (g : ℕ) (d : ℤ) → base K w ≡ Some g → dirfd_of_call K c ≡ Some d → (is_some (base-in S K w) ≡ true) × (base-in S K w ≡ named_then S K w g d)
+  -- while the call is listed, or once a check was good, the seat's base can be relied on
+  abbrev worth_of : Bool → Worth
+  worth_of checked = if checked then Valid else Fresh
 
-  named-fetch : FetchKept T R Named
-  named-fetch K a w c n legal room q row o idle own g d h z = let m = (moved (ev a (Recv (Ok n))) K w q).2 in absurd (cc (m, idle.base_none, h))
+  abbrev Based : List Event → ℕ → ℕ → Type 0
+  Based K w c = (g : ℕ) → base K w ≡ Some g → (listed K c ≡ true) ⊎ (any_of is_good_check (session K w) ≡ true)
+      → (is_some (base-in S K w) ≡ true) × (base_worth S K w ≡ worth_of (any_of is_good_check (session K w)))
 
-  dirfd-older : (e : Event) (K : List Event) (c : ℕ) → c < length K → dirfd_of_call (e ∷ K) c ≡ dirfd_of_call K c
-  dirfd-older e K c l = rw (event_at-older e K c l) refl
+  based-fetch : FetchKept T R Based
+  based-fetch K a w c n legal room q row o idle own g h l = let m = (moved (ev a (Recv (Ok n))) K w q).2 in absurd (cc (m, idle.base_none, h))
 
-  named-later : (e : Event) (K : List Event) (w c : ℕ) → c < length K → base (e ∷ K) w ≡ base K w → base-in S (e ∷ K) w ≡ base-in S K w → ((g : ℕ) (d : ℤ) → named_then S (e ∷ K) w g d ≡ named_then S K w g d) → Named K w c → Named (e ∷ K) w c
-  named-later e K w c l b f n ih g d h z =
-      let k = ih g d (sym b ∙ h) (sym (dirfd-older e K c l) ∙ z) in (rw f k.0, f ∙ (k.1 ∙ sym (n g d)))
+  same-some : (x y : Option ℕ) → is_some x ≡ true → y ≡ x → is_base x y ≡ true
+  same-some None y h z = cc
+  same-some (Some m) y h z = rw z (eq-eqb m m refl)
 
-  named-here : (K : List Event) (a : Actor) (w c p : ℕ) (x : ℤ) (u : Unit {0}) → is_worker a w ≡ true → WorkerRow T R K w (OpenBase p x (Ok u)) → (i : InSession K w c) → Named (ev a (OpenBase p x (Ok u)) ∷ K) w c
-  named-here K a w c p x u q row i g d h z =
-      let e = ev a (OpenBase p x (Ok u)) in
-      let l = is_call-below K c i.call in
+  now-fresh : (K : List Event) (c : ℕ) (x : ℤ) (there : Option ℕ) → dirfd_of_call K c ≡ Some x → is_some there ≡ true → directory_named S K c x ≡ there → listed K c ≡ true → base_now S K (Some c) there ≡ Fresh
+  now-fresh K c x there v t d l = let b : is_base there (directory_named S K c x) ≡ true = same-some there (directory_named S K c x) t d in rw (v, b, l) refl
+
+  -- what the steps before tell is at the head of each of these
+  was-own : (K : List Event) (w c : ℕ) (what : What) → IsLegal T R K → length K < 2 ^ 64 → InSession K w c → WorkerRow T R K w what
+      → (listed K c ≡ true) ⊎ (any_of is_good_check (what ∷ session K w) ≡ true) → (listed K c ≡ true) ⊎ (any_of is_good_check (session K w) ≡ true)
+  was-own K w c (Check x (Ok u)) legal room i row l = inl (and_parts (listed K c) _ (check-listed T R K w c x u legal room i row)).0
+  was-own K w c what legal room i row l = l
+
+  good-checks : (own : List What) → any_of is_good_check own ≡ true → 0 < number_of checks own
+  good-checks [] h = absurd (cc h)
+  good-checks (b ∷ own) h = let ih = good-checks own in grind arith
+
+  -- an opening stands before the checks
+  unchecked-yet : (K : List Event) (w p : ℕ) (x : ℤ) (y : Result (Unit {0}) ℕ) → IsLegal T R K → WorkerRow T R K w (OpenBase p x y) → any_of is_good_check (session K w) ≡ true → ⊥
+  unchecked-yet K w p x y legal row h = elim ((ordered R (session K w) (is-own T R K legal w)).based row.0.0 row.0.1.notif_is (good-checks (session K w) h)) [ inl z ↦ cc (z, row.0.5) | inr z ↦ cc (z, row.0.3) ]
+
+  before-checks : (K : List Event) (w p : ℕ) (x : ℤ) (y : Result (Unit {0}) ℕ) → IsLegal T R K → WorkerRow T R K w (OpenBase p x y) → any_of is_good_check (session K w) ≡ false
+  before-checks K w p x y legal row = elim (cases_Bool (any_of is_good_check (session K w))) [ inl t ↦ absurd (unchecked-yet K w p x y legal row t) | inr f ↦ f ]
+
+  based-here : (K : List Event) (a : Actor) (w c p : ℕ) (x : ℤ) (u : Unit {0}) → IsLegal T R K → is_worker a w ≡ true → WorkerRow T R K w (OpenBase p x (Ok u)) → (i : InSession K w c) → session_call K w ≡ Some c → listed K c ≡ true
+      → (is_some (base-in S (ev a (OpenBase p x (Ok u)) ∷ K) w) ≡ true) × (base_worth S (ev a (OpenBase p x (Ok u)) ∷ K) w ≡ Fresh)
+  based-here K a w c p x u legal q row i s l =
       let o = opening-there S K p x u (holder K p) refl row.1 in
-      let y : row.0.0 ≡ notif K c = cc (row.0.1.notif_is, i.notif_is, i.whole_is) in
-      let v : dirfd_of_call K c ≡ Some x = rw y at row.0.5 in
-      let m : x ≡ d = cc (v, sym (dirfd-older e K c l) ∙ z) in
-      let r : base (e ∷ K) w ≡ Some (group K o.task) = (moved e K w q).2 ∙ ap (opened K) o.found in
-      let s : group K o.task ≡ g = cc (r, h) in
-      let f : base-in S (e ∷ K) w ≡ base_of S (files S K) g d = base-opens S K a w p x u q ∙ rw (o.found, s, m) refl in
-      let t : is_some (base_of S (files S K) g d) ≡ true = rw (s, m) at o.there in
-      (rw f t, f ∙ sym (named-opens S K a w p g d x u q))
+      let n : row.0.0 ≡ i.n = cc (row.0.1.notif_is, i.notif_is) in
+      let pid : p ≡ i.n.pid = row.0.4 ∙ ap (λ (m : Notif). m.pid) n in
+      let own = (opens-own T R K w c legal i l).0 in
+      let t : o.task ≡ i.t = cc (o.found, ap (holder K) pid, own) in
+      let v : dirfd_of_call K c ≡ Some x = rw (n ∙ i.whole_is) at row.0.5 in
+      let held : holder K p ≡ Some i.t = ap (holder K) pid ∙ own in
+      let z : directory_opened S K p x ≡ base_of S (files S K) (group K i.t) x = rw held refl in
+      let d : directory_named S K c x ≡ base_of S (files S K) (group K i.t) x = rw i.task_is refl in
+      let o-there : is_some (base_of S (files S K) (group K i.t) x) ≡ true = rw t at o.there in
+      let there : is_some (directory_opened S K p x) ≡ true = rw z o-there in
+      let same : directory_named S K c x ≡ directory_opened S K p x = d ∙ sym z in
+      let f : base-in S (ev a (OpenBase p x (Ok u)) ∷ K) w ≡ directory_opened S K p x = base-opens S K a w p x u q in
+      (rw f there, worth-mine S K a w (OpenBase p x (Ok u)) q ∙ rw s (now-fresh K c x (directory_opened S K p x) v there same l))
+
+  valid-now : (b : Bool) → validated (worth_of b) ≡ Valid
+  valid-now true = refl
+  valid-now false = refl
+
+  -- the step leaves the base and its worth as they are
+  abbrev leaves_base : What → Bool
+  leaves_base (OpenBase p d (Ok u)) = false
+  leaves_base (Check x (Ok u)) = false
+  leaves_base what = works what
 
   quiet-base : (K : List Event) (what : What) (b : Option ℕ) → moves what ≡ false → base_after K what b ≡ b
   quiet-base K what b h = grind arith
 
-  quiet-opens : (what : What) (b : Bool) → moves what ≡ false → (b && opens_directory what) ≡ false
-  quiet-opens what b h = grind arith
-
   quiet-moves : (b c : Bool) → c ≡ false → (b && c) ≡ false
   quiet-moves b c h = grind arith
 
-  named-quiet : (K : List Event) (a : Actor) (w c : ℕ) (what : What) → moves what ≡ false → is_worker a w ≡ true → (i : InSession K w c) → Named K w c → Named (ev a what ∷ K) w c
-  named-quiet K a w c what h q i ih =
-      let e = ev a what in
-      named-later e K w c (is_call-below K c i.call) ((moved e K w q).2 ∙ quiet-base K what (base K w) h) (base-same S e K w (quiet-moves (is_worker a w) (moves what) h))
-      (λ g d. named-same S e K w g d (quiet-opens what (is_worker a w) h)) ih
+  left-moves : (what : What) → leaves_base what ≡ true → moves what ≡ false
+  left-moves what h = grind arith
 
-  named-work : WorkKept T R Named
-  named-work K a w c (OpenBase p x (Ok u)) legal room q row v i s own ih = named-here K a w c p x u q row i
-  named-work K a w c (OpenBase p x (Err y)) legal room q row v i s own ih = named-quiet K a w c (OpenBase p x (Err y)) refl q i ih
-  named-work K a w c (OpenMem p y) legal room q row v i s own ih = named-quiet K a w c (OpenMem p y) refl q i ih
-  named-work K a w c (Check x y) legal room q row v i s own ih = named-quiet K a w c (Check x y) refl q i ih
-  named-work K a w c (Read x l y) legal room q row v i s own ih = named-quiet K a w c (Read x l y) refl q i ih
-  named-work K a w c (Act x limit y) legal room q row v i s own ih = named-quiet K a w c (Act x limit y) refl q i ih
-  named-work K a w c (Plant x b limit y) legal room q row v i s own ih = named-quiet K a w c (Plant x b limit y) refl q i ih
-  named-work K a w c (AddfdPut x y) legal room q row v i s own ih = named-quiet K a w c (AddfdPut x y) refl q i ih
-  named-work K a w c (AddfdTake y) legal room q row v i s own ih = named-quiet K a w c (AddfdTake y) refl q i ih
-  named-work K a w c (Send x b y) legal room q row v i s own ih = named-quiet K a w c (Send x b y) refl q i ih
-  named-work K a w c what legal room q row v i s own ih = absurd (cc v)
+  left-worth : (K : List Event) (w : ℕ) (what : What) (b : Worth) → leaves_base what ≡ true → base_worth_after S K w what b ≡ b
+  left-worth K w what b h = grind arith
+
+  left-check : (what : What) (own : List What) → leaves_base what ≡ true → any_of is_good_check (what ∷ own) ≡ any_of is_good_check own
+  left-check what own h = grind arith
+
+  -- what was so before is so behind a step that leaves the base
+  earlier : (K : List Event) (a : Actor) (w c : ℕ) (what : What) → IsLegal T R K → length K < 2 ^ 64 → WorkerRow T R K w what → (i : InSession K w c) → session (ev a what ∷ K) w ≡ what ∷ session K w
+      → (listed (ev a what ∷ K) c ≡ true) ⊎ (any_of is_good_check (session (ev a what ∷ K) w) ≡ true) → (listed K c ≡ true) ⊎ (any_of is_good_check (session K w) ≡ true)
+  earlier K a w c what legal room row i own l =
+      was-own K w c what legal room i row (elim l [ inl x ↦ inl (listed-was (ev a what) K c (is_call-below K c i.call) x) | inr x ↦ inr (rw own at x) ])
+
+  based-quiet : (K : List Event) (a : Actor) (w c : ℕ) (what : What) → leaves_base what ≡ true → IsLegal T R K → length K < 2 ^ 64 → is_worker a w ≡ true → WorkerRow T R K w what → (i : InSession K w c)
+      → session (ev a what ∷ K) w ≡ what ∷ session K w → Based K w c → Based (ev a what ∷ K) w c
+  based-quiet K a w c what z legal room q row i own ih g h l =
+      let e = ev a what in
+      let base-is : base (e ∷ K) w ≡ base K w = (moved e K w q).2 ∙ quiet-base K what (base K w) (left-moves what z) in
+      let j = ih g (sym base-is ∙ h) (earlier K a w c what legal room row i own l) in
+      let f = base-same S e K w (quiet-moves (is_worker a w) (moves what) (left-moves what z)) in
+      let m : any_of is_good_check (session (e ∷ K) w) ≡ any_of is_good_check (session K w) = ap (any_of is_good_check) own ∙ left-check what (session K w) z in
+      (rw f j.0, worth-mine S K a w what q ∙ (left-worth K w what (base_worth S K w) z ∙ (j.1 ∙ sym (ap worth_of m))))
+
+  based-check : (K : List Event) (a : Actor) (w c x : ℕ) (u : Unit {0}) → IsLegal T R K → length K < 2 ^ 64 → is_worker a w ≡ true → WorkerRow T R K w (Check x (Ok u)) → (i : InSession K w c) → session_call K w ≡ Some c
+      → session (ev a (Check x (Ok u)) ∷ K) w ≡ Check x (Ok u) ∷ session K w → Based K w c → Based (ev a (Check x (Ok u)) ∷ K) w c
+  based-check K a w c x u legal room q row i s own ih g h l =
+      let e = ev a (Check x (Ok u)) in
+      let base-is : base (e ∷ K) w ≡ base K w = (moved e K w q).2 ∙ quiet-base K (Check x (Ok u)) (base K w) refl in
+      let j = ih g (sym base-is ∙ h) (earlier K a w c (Check x (Ok u)) legal room row i own l) in
+      let f = base-same S e K w (quiet-moves (is_worker a w) false refl) in
+      let o : is_own_id K w x ≡ true = own-check T R K w c x u i s row in
+      let y : base_worth S (e ∷ K) w ≡ Valid = worth-mine S K a w (Check x (Ok u)) q ∙ (rw o (rw j.1 (valid-now (any_of is_good_check (session K w))))) in
+      (rw f j.0, y ∙ sym (ap (λ (own : List What). worth_of (any_of is_good_check own)) own))
+
+  based-work : WorkKept T R Based
+  based-work K a w c (OpenBase p x (Ok u)) legal room q row v i s own ih g h l =
+      let n = before-checks K w p x (Ok u) legal.1 row in
+      let m : any_of is_good_check (session (ev a (OpenBase p x (Ok u)) ∷ K) w) ≡ false = ap (any_of is_good_check) own ∙ n in
+      elim l [
+        | inl z ↦ let j = based-here K a w c p x u legal.1 q row i s (listed-was (ev a (OpenBase p x (Ok u))) K c (is_call-below K c i.call) z) in (j.0, j.1 ∙ sym (ap worth_of m))
+        | inr z ↦ absurd (cc (z, m))
+      ]
+  based-work K a w c (Check x (Ok u)) legal room q row v i s own ih g h l = based-check K a w c x u legal.1 (omega arith) q row i s own ih g h l
+  based-work K a w c (OpenBase p x (Err y)) legal room q row v i s own ih g h l = based-quiet K a w c (OpenBase p x (Err y)) refl legal.1 (omega arith) q row i own ih g h l
+  based-work K a w c (OpenMem p y) legal room q row v i s own ih g h l = based-quiet K a w c (OpenMem p y) refl legal.1 (omega arith) q row i own ih g h l
+  based-work K a w c (Check x (Err y)) legal room q row v i s own ih g h l = based-quiet K a w c (Check x (Err y)) refl legal.1 (omega arith) q row i own ih g h l
+  based-work K a w c (Read x n y) legal room q row v i s own ih g h l = based-quiet K a w c (Read x n y) refl legal.1 (omega arith) q row i own ih g h l
+  based-work K a w c (Act x limit y) legal room q row v i s own ih g h l = based-quiet K a w c (Act x limit y) refl legal.1 (omega arith) q row i own ih g h l
+  based-work K a w c (Plant x b limit y) legal room q row v i s own ih g h l = based-quiet K a w c (Plant x b limit y) refl legal.1 (omega arith) q row i own ih g h l
+  based-work K a w c (AddfdPut x y) legal room q row v i s own ih g h l = based-quiet K a w c (AddfdPut x y) refl legal.1 (omega arith) q row i own ih g h l
+  based-work K a w c (AddfdTake y) legal room q row v i s own ih g h l = based-quiet K a w c (AddfdTake y) refl legal.1 (omega arith) q row i own ih g h l
+  based-work K a w c (Send x b y) legal room q row v i s own ih g h l = based-quiet K a w c (Send x b y) refl legal.1 (omega arith) q row i own ih g h l
+  based-work K a w c what legal room q row v i s own ih g h l = absurd (cc v)
 
   skip-moves : (b : Bool) (what : What) → (b && not (skips what)) ≡ false → (b && moves what) ≡ false
   skip-moves b what h = grind arith
 
-  skip-opens : (b : Bool) (what : What) → (b && not (skips what)) ≡ false → (b && opens_directory what) ≡ false
-  skip-opens b what h = grind arith
+  skip-worth : (K : List Event) (w : ℕ) (what : What) (b : Worth) → skips what ≡ true → base_worth_after S K w what b ≡ b
+  skip-worth K w what b h = grind arith
 
-  named-still : StillKept T R Named
-  named-still K e w c legal room q i s own ih =
-      named-later e K w c (is_call-below K c i.call) (still e K w q).3 (base-same S e K w (skip-moves (is_worker e.who w) e.what q)) (λ g d. named-same S e K w g d (skip-opens (is_worker e.who w) e.what q)) ih
+  still-worth : (e : Event) (K : List Event) (w : ℕ) → (is_worker e.who w && not (skips e.what)) ≡ false → base_worth S (e ∷ K) w ≡ base_worth S K w
+  unfolding base_worth
+  still-worth e K w q = grind (arith, skip-worth)
 
-  pub named : (K : List Event) → IsLegal T R K → length K < 2 ^ 64 → (w c : ℕ) → session_call K w ≡ Some c → Named K w c
-  named = by-session T R Named named-fetch named-work named-still
+  based-still : StillKept T R Based
+  based-still K e w c legal room q i s own ih g h l =
+      let f = base-same S e K w (skip-moves (is_worker e.who w) e.what q) in
+      let j = ih g (sym (still e K w q).3 ∙ h) (elim l [ inl x ↦ inl (listed-was e K c (is_call-below K c i.call) x) | inr x ↦ inr (rw own at x) ]) in
+      (rw f j.0, still-worth e K w q ∙ (j.1 ∙ sym (ap (λ (own : List What). worth_of (any_of is_good_check own)) own)))
+
+  pub based : (K : List Event) → IsLegal T R K → length K < 2 ^ 64 → (w c : ℕ) → session_call K w ≡ Some c → Based K w c
+  based = by-session T R Based based-fetch based-work based-still
 
   -- ---- a base that isn't there
 
@@ -223,14 +294,6 @@ module _ (P : Policy) (S : Script) where
   mine-refused : (K : List Event) (a : Actor) (w : ℕ) (what : What) → is_worker a w ≡ true → is_base_refused S (ev a what ∷ K) w ≡ refused_after S K w what (is_base_refused S K w)
   unfolding is_base_refused
   mine-refused K a w what q = rw q refl
-
-  good-checks : (own : List What) → any_of is_good_check own ≡ true → 0 < number_of checks own
-  good-checks [] h = absurd (cc h)
-  good-checks (b ∷ own) h = let ih = good-checks own in grind arith
-
-  -- an opening stands before the checks
-  unchecked-yet : (K : List Event) (w p : ℕ) (x : ℤ) (y : Result (Unit {0}) ℕ) → IsLegal T R K → WorkerRow T R K w (OpenBase p x y) → any_of is_good_check (session K w) ≡ true → ⊥
-  unchecked-yet K w p x y legal row h = elim ((ordered R (session K w) (is-own T R K legal w)).based row.0.0 row.0.1.notif_is (good-checks (session K w) h)) [ inl z ↦ cc (z, row.0.5) | inr z ↦ cc (z, row.0.3) ]
 
   record IsClosed (K : List Event) (o : Option ℕ) (x : ℤ) (y : ℕ) : Type 0 where
     pub task : ℕ
@@ -262,12 +325,6 @@ module _ (P : Policy) (S : Script) where
       let v : dirfd_of_call K c ≡ Some x = rw (n ∙ i.whole_is) at row.0.5 in
       let z : is_none (directory_named S K c x) ≡ true = rw i.task_is (rw t at k.none) in
       mine-refused K a w (OpenBase p x (Err y)) q ∙ rw (k.error, s, v, int-same x, z) refl
-
-  -- at a step its call was listed, or had a good check
-  was-own : (K : List Event) (w c : ℕ) (what : What) → IsLegal T R K → length K < 2 ^ 64 → InSession K w c → WorkerRow T R K w what
-      → (listed K c ≡ true) ⊎ (any_of is_good_check (what ∷ session K w) ≡ true) → (listed K c ≡ true) ⊎ (any_of is_good_check (session K w) ≡ true)
-  was-own K w c (Check x (Ok u)) legal room i row l = inl (and_parts (listed K c) _ (check-listed T R K w c x u legal room i row)).0
-  was-own K w c what legal room i row l = l
 
   -- the step opens no base
   abbrev opens_none : What → Bool
@@ -347,7 +404,7 @@ module _ (P : Policy) (S : Script) where
   -- ---- an act goes from its call's directory
 
   goes-own : (K : List Event) (w c : ℕ) (n : Notif) (q : Request) (limit : Option Cap) (a : Result (Unit {0}) ℕ) (d : ℤ) → IsLegal T R K → length K < 2 ^ 64 → session_call K w ≡ Some c → AtWork (session K w) n
-      → HasOpened R (session K w) n → any_of checks (session K w) ≡ true → dirfd_of_call K c ≡ Some d → R.dirfd n ≡ Some d → goes_elsewhere S K w c (Act q limit a) ≡ false
+      → HasOpened R (session K w) n → any_of checks (session K w) ≡ true → dirfd_of_call K c ≡ Some d → R.dirfd n ≡ Some d → goes_elsewhere S K w (Act q limit a) ≡ false
   unfolding base-in
   goes-own K w c n q limit a d legal room s work ready k f r = go (base K w) refl
     where
@@ -360,10 +417,6 @@ module _ (P : Policy) (S : Script) where
       opened-it : any_of opens_base (session K w) ≡ true
       opened-it = elim ready.base [ inl z ↦ absurd (cc (z, r)) | inr z ↦ z ]
 
-      same-some : (x y : Option ℕ) → is_some x ≡ true → x ≡ y → is_base x y ≡ true
-      same-some None y h z = cc
-      same-some (Some m) y h z = rw (← z) (eq-eqb m m refl)
-
       and-false : (b : Bool) → (b && false) ≡ false
       and-false true = refl
       and-false false = refl
@@ -375,17 +428,37 @@ module _ (P : Policy) (S : Script) where
       either-last true b h = and-false (is_relative (path_of q))
       either-last false b h = rw h (and-false (is_relative (path_of q)))
 
-      go : (o : Option ℕ) → base K w ≡ o → goes_elsewhere S K w c (Act q limit a) ≡ false
+      go : (o : Option ℕ) → base K w ≡ o → goes_elsewhere S K w (Act q limit a) ≡ false
       go None z =
           let b = refused K legal room w c s opened-it work.no_end z (inr good) in
           let x : (files S K).base w ≡ None = none-there K legal room w z in
-          either-last (has_own_base S K w c (dirfd_of_call K c)) (has_none S K w) (rw (x, b) refl)
+          either-last (has_base Fresh S K w) (has_none S K w) (rw (x, b) refl)
       go (Some g) z =
-          let m = named K legal room w c s g d z f in
-          let y : g ≡ group K i.t = ((steady T R K legal room w c s).handles i.t g i.task_is (inr good)).1 z in
-          let v : place_or (group_named K (caller K c)) ≡ g = rw i.task_is (sym y) in
-          let h : has_own_base S K w c (dirfd_of_call K c) ≡ true = rw (f, v) (same-some ((files S K).base w) (named_then S K w g d) m.0 m.1) in
-          either (has_own_base S K w c (dirfd_of_call K c)) (has_none S K w) h
+          let m = based K legal room w c s g z (inr good) in
+          let y : base_worth S K w ≡ Valid = m.1 ∙ rw good refl in
+          either (has_base Fresh S K w) (has_none S K w) (rw (m.0, y) refl)
+
+  -- and a check was good behind its opening
+  pub base_checked : (K : List Event) (w : ℕ) (q : Request) (limit : Option Cap) (a : Result (Unit {0}) ℕ) → IsLegal T R K → length K < 2 ^ 64 → WorkerRow T R K w (Act q limit a) → base_is_unchecked S K w (Act q limit a) ≡ false
+  unfolding base-in
+  base_checked K w q limit a legal room row = go (base K w) refl
+    where
+      u : Uses P S K w (Acts q limit)
+      u = uses P S K w row.0.0 (Acts q limit) legal room row.0.1 row.0.3 row.0.6 row.0.4
+
+      good : any_of is_good_check (session K w) ≡ true
+      good = good-check (session K w) row.0.3.checked row.0.1.no_end
+
+      and-false : (b : Bool) → (b && false) ≡ false
+      and-false true = refl
+      and-false false = refl
+
+      go : (o : Option ℕ) → base K w ≡ o → base_is_unchecked S K w (Act q limit a) ≡ false
+      go None z = let x : (files S K).base w ≡ None = none-there K legal room w z in rw x (and-false (is_relative (path_of q)))
+      go (Some g) z =
+          let m = based K legal room w u.call u.in_hand g z (inr good) in
+          let y : base_worth S K w ≡ Valid = m.1 ∙ rw good refl in
+          rw (m.0, y) (and-false (is_relative (path_of q)))
 
   seat-goes : (K : List Event) (w : ℕ) (what : What) → IsLegal T R K → length K < 2 ^ 64 → WorkerRow T R K w what → seat_breaks P S OtherBase K w what (session_call K w) ≡ false
   seat-goes K w (Act q limit a) legal room row =
@@ -398,7 +471,7 @@ module _ (P : Policy) (S : Script) where
       or-no : (b : Bool) → b ≡ false → (b || false) ≡ false
       or-no b h = rw h refl
 
-      go : (c : ℕ) → session_call K w ≡ Some c → row.0.0 ≡ notif K c → (b : Bool) → is_relative (path_of q) ≡ b → (b ≡ true → (d : ℤ) × (dirfd_of_call K c ≡ Some d)) → (goes_elsewhere S K w c (Act q limit a) || false) ≡ false
+      go : (c : ℕ) → session_call K w ≡ Some c → row.0.0 ≡ notif K c → (b : Bool) → is_relative (path_of q) ≡ b → (b ≡ true → (d : ℤ) × (dirfd_of_call K c ≡ Some d)) → (goes_elsewhere S K w (Act q limit a) || false) ≡ false
       go c s y false h f = rw h refl
       go c s y true h f =
           let d = f refl in

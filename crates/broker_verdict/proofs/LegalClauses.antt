@@ -1,7 +1,7 @@
 -- No legal history breaks these clauses.
 -- By what each step of a worker tells of its session.
 use Rattle.mediation.proofs.Common.{Act, Actor, AddfdPut, ap, Bool, Event, false, first_some, id, inl, inr, Injects, IsLegal, length, List, Listener, None, Notif, Option}
-use Rattle.mediation.proofs.Common.{outcome_in, Plant, Policy, put_in, refl, Result, Rules, rules_of, Script, Send, session, session_call, Some, Start, System, system_of, Task, true, What, Worker}
+use Rattle.mediation.proofs.Common.{Ok, outcome_in, Plant, Policy, put_in, refl, Result, Rules, rules_of, Script, Send, session, session_call, Some, Start, System, system_of, Task, true, What, Worker}
 use Rattle.mediation.proofs.Common.{ℕ, ◌<◌, ◌^◌, ◌||◌, ◌≡◌, cases_Bool, eq-eqb, any_of, gives_up, reads_of, is_acting}
 use Rattle.hist_model.specs.Legal.{Legal}
 use Rattle.hist_model.specs.Sessions.{Decision}
@@ -79,19 +79,19 @@ module _ (P : Policy) (S : Script) where
   own-answer K w what legal room row = none-some (seat_breaks P S OtherAnswer K w what) refl (λ c. refl) (session_call K w)
 
   caused : SeatKeeps Uncaused
-  caused K w (Send x b a) legal room row = let s = sends P S K w x b a legal room row in rw s.in_hand (has_cause P S K w x b s)
+  caused K w (Send x b (Ok u)) legal room row = let s = sends P S K w x b (Ok u) legal room row in rw s.in_hand (has_cause P S K w x b s)
   caused K w what legal room row = none-some (seat_breaks P S Uncaused K w what) refl (λ c. refl) (session_call K w)
 
   denied : SeatKeeps DeniedOtherwise
-  denied K w (Send x b a) legal room row = let s = sends P S K w x b a legal room row in rw s.in_hand (denies_so P S K w x b s)
+  denied K w (Send x b (Ok u)) legal room row = let s = sends P S K w x b (Ok u) legal room row in rw s.in_hand (denies_so P S K w x b s)
   denied K w what legal room row = none-some (seat_breaks P S DeniedOtherwise K w what) refl (λ c. refl) (session_call K w)
 
   passed : SeatKeeps PassedOtherwise
-  passed K w (Send x b a) legal room row = let s = sends P S K w x b a legal room row in rw s.in_hand (passes_so P S K w x b s)
+  passed K w (Send x b (Ok u)) legal room row = let s = sends P S K w x b (Ok u) legal room row in rw s.in_hand (passes_so P S K w x b s)
   passed K w what legal room row = none-some (seat_breaks P S PassedOtherwise K w what) refl (λ c. refl) (session_call K w)
 
   done : SeatKeeps GrantedNotDone
-  done K w (Send x b a) legal room row = let s = sends P S K w x b a legal room row in rw s.in_hand (reports_done P S K w x b s)
+  done K w (Send x b (Ok u)) legal room row = let s = sends P S K w x b (Ok u) legal room row in rw s.in_hand (reports_done P S K w x b s)
   done K w what legal room row = none-some (seat_breaks P S GrantedNotDone K w what) refl (λ c. refl) (session_call K w)
 
   -- ---- an effect is the first, and stands before the answer

@@ -25,7 +25,7 @@ use Rattle.broker_verdict.proofs.CallNumbers.{by_number}
 use Rattle.broker_verdict.proofs.LegalClauses.{keeps, none-some}
 use Rattle.broker_verdict.proofs.LegalReads.{planned}
 use Rattle.broker_verdict.specs.Choices.{decided}
-use Rattle.broker_verdict.specs.Effects.{grants_just, is_made_so, is_put_of, is_ungranted, texts_copied, texts_of, texts_or}
+use Rattle.broker_verdict.specs.Effects.{grants_just, is_granted, is_made_so, is_put_of, is_ungranted, texts_copied, texts_of, texts_or}
 use Rattle.broker_verdict.specs.SeatCopies.{copies_of, newest_copy, plan_of, planned_from, texts_in, whole_in, worth_least}
 use Rattle.broker_verdict.specs.Seats.{reads, request_with, Valid}
 use Rattle.broker_verdict.specs.Trusted.{Keeps, seat_breaks}
@@ -225,6 +225,11 @@ module _ (P : Policy) (S : Script) where
   first-texts [] t more = refl
   first-texts (x ∷ xs) t more = refl
 
+  granted-some : (K : List Event) (c : ℕ) (what : What) (all : List (List (List ℕ))) (t : List (List ℕ)) → list_any (λ texts. grants_just P S K c what texts (decided P K c texts)) (all ++ (t ∷ [])) ≡ true
+      → is_granted P S K c what (all ++ (t ∷ [])) ≡ true
+  granted-some K c what [] t h = h
+  granted-some K c what (x ∷ all) t h = h
+
   act-grants : (K : List Event) (c : ℕ) (q : Request) (cap : Option Cap) (a : Result (Unit {0}) ℕ) (texts : List (List ℕ)) (d : ℕ × Verdict) → d ≡ (d.0, Grant)
       → q ≡ granted_by P.rules d.0 (request_with K c texts) → grants_just P S K c (Act q cap a) texts d ≡ true
   act-grants K c q cap a texts d g z = rw g (rw z (made-so (granted_by P.rules d.0 (request_with K c texts))))
@@ -260,8 +265,9 @@ module _ (P : Policy) (S : Script) where
       let all = texts_in (newest_copy (worth_least Valid (reads K w)) (plan_of K u.call)) in
       let v : whole_in (copies_of Valid K w u.call) ≡ all ++ (u.texts ∷ []) = rw u.is_planned refl in
       let t : texts_copied K w u.call ≡ all ++ (u.texts ∷ []) = rw v (first-texts all u.texts _) in
-      ungranted-false _ (rw t (last-any (λ texts. grants_just P S K u.call (AddfdPut (addfd_of x src at flags) a) texts (decided P K u.call texts)) all u.texts
-      (put-grants K u.call x src at flags a u.texts (decided P K u.call u.texts) g)))
+      ungranted-false _ (rw t (granted-some K u.call (AddfdPut (addfd_of x src at flags) a) all u.texts
+      (last-any (λ texts. grants_just P S K u.call (AddfdPut (addfd_of x src at flags) a) texts (decided P K u.call texts)) all u.texts
+      (put-grants K u.call x src at flags a u.texts (decided P K u.call u.texts) g))))
 
   both-false : (b : Bool) → b ≡ false → (b || false) ≡ false
   both-false b h = rw h refl

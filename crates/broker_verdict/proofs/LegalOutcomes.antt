@@ -154,7 +154,7 @@ module _ (P : Policy) (S : Script) where
       go (Some p) q i = rw (q, i.1, allows K w x e p s i.0 legal room q i.2 (fails-so K w x e s i.0 i.2)) refl
 
   outcome : (K : List Event) (w : ℕ) (what : What) → IsLegal T R K → length K < 2 ^ 64 → WorkerRow T R K w what → seat_breaks P S OtherOutcome K w what (session_call K w) ≡ false
-  outcome K w (Send x b a) legal room row = let s = sends P S K w x b a legal room row in rw s.in_hand (outcome-told K w x b s legal room)
+  outcome K w (Send x b (Ok u)) legal room row = let s = sends P S K w x b (Ok u) legal room row in rw s.in_hand (outcome-told K w x b s legal room)
   outcome K w what legal room row = none-some (seat_breaks P S OtherOutcome K w what) refl (λ c. refl) (session_call K w)
 
 pub outcome_so : (P : Policy) (S : Script) (K : List Event) → Legal P S K → Keeps P S OtherOutcome K

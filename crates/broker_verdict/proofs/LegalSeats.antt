@@ -4,7 +4,9 @@ use Rattle.mediation.proofs.Common.{Actor, any_of, arith, Bool, Check, ev, Event
 use Rattle.mediation.proofs.Common.{if◌then◌else◌, is_good_check, is_worker, IsLegal, length, List, None, not, Ok, Option, refl, Rules, session, skips, Some}
 use Rattle.mediation.proofs.Common.{sym, System, true, What, Worker, ℕ, ◌&&◌, ◌<◌, ◌^◌, ◌∙◌, ◌∷◌, ◌≡◌, eq-eqb, id, ap, session_call}
 use Rattle.mediation.proofs.Hands.{by-session, FetchKept, InSession, StillKept, WorkKept, works}
+use Rattle.mediation.proofs.Order.{is-own, ordered}
 use Rattle.mediation.proofs.Rows.{WorkerRow}
+use Rattle.mediation.proofs.Common.{[], checks, number_of, OpenMem}
 use Rattle.broker_verdict.proofs.SeatReads.{worker-is}
 use Rattle.broker_verdict.specs.Seats.{checked_after, effect_after, effect_of, has_sent, is_checked, is_effect, is_own_id, sent_after}
 
@@ -105,14 +107,23 @@ module _ (S : System) (R : Rules) where
       let z : x ≡ id K c = row.0.3 ∙ (ap (λ (n : Notif). n.id) y ∙ i.id_is) in
       rw s (eq-eqb (id K c) x (sym z))
 
-  checked-more : (K : List Event) (w c : ℕ) (what : What) → InSession K w c → session_call K w ≡ Some c → WorkerRow S R K w what → works what ≡ true
+  good-checks : (own : List What) → any_of is_good_check own ≡ true → 0 < number_of checks own
+  good-checks [] h = absurd (cc h)
+  good-checks (b ∷ own) h = let ih = good-checks own in grind arith
+
+  -- the memory is opened before the first check
+  unopened-yet : (K : List Event) (w p : ℕ) (u : Unit {0}) → IsLegal S R K → WorkerRow S R K w (OpenMem p (Ok u)) → any_of is_good_check (session K w) ≡ true → ⊥
+  unopened-yet K w p u legal row h = cc (row.0.2, (ordered R (session K w) (is-own S R K legal w)).opened (good-checks (session K w) h))
+
+  checked-more : (K : List Event) (w c : ℕ) (what : What) → IsLegal S R K → InSession K w c → session_call K w ≡ Some c → WorkerRow S R K w what → works what ≡ true
       → (any_of is_good_check (session K w) ≡ true → is_checked K w ≡ true) → any_of is_good_check (what ∷ session K w) ≡ true → checked_after K w what (is_checked K w) ≡ true
-  checked-more K w c (Check x (Ok u)) i s row v ih h = rw (own-check K w c x u i s row) refl
-  checked-more K w c what i s row v ih h = grind arith
+  checked-more K w c (OpenMem p (Ok u)) legal i s row v ih h = absurd (unopened-yet K w p u legal row h)
+  checked-more K w c (Check x (Ok u)) legal i s row v ih h = rw (own-check K w c x u i s row) refl
+  checked-more K w c what legal i s row v ih h = grind arith
 
   checked-work : WorkKept S R Checked
   unfolding is_checked
-  checked-work K a w c what legal room q row v i s own ih h = rw q (checked-more K w c what i s row v ih (rw own at h))
+  checked-work K a w c what legal room q row v i s own ih h = rw q (checked-more K w c what legal.1 i s row v ih (rw own at h))
 
   checked-skip : (K : List Event) (w : ℕ) (what : What) (b : Bool) → skips what ≡ true → checked_after K w what b ≡ b
   checked-skip K w what b h = grind arith

@@ -12,7 +12,7 @@ use Rattle.broker_verdict.proofs.LegalClauses.{answer_has_call, before_answer, c
 use Rattle.broker_verdict.proofs.LegalGrants.{granted_so}
 use Rattle.broker_verdict.proofs.LegalOutcomes.{outcome_so}
 use Rattle.broker_verdict.proofs.LegalRequests.{same_request}
-use Rattle.broker_verdict.proofs.LegalRests.{checked_after, own_memory, read_in_time, was_read}
+use Rattle.broker_verdict.proofs.LegalRests.{checked_after, own_memory, read_in_time, untorn_so, was_read}
 use Rattle.broker_verdict.proofs.LegalSecond.{answered_once}
 use Rattle.broker_verdict.proofs.LegalTimes.{within_times}
 use Rattle.broker_verdict.proofs.LegalWaits.{answered_all}
@@ -26,6 +26,7 @@ legal_trusted P S K policy script legal = record {
   own_memory = own_memory P S K script legal;
   read_in_time = read_in_time P S K script legal;
   checked = checked_after P S K script legal;
+  untorn = untorn_so P S K script legal;
   own_base = own_base P S K legal;
   granted = granted_so P S K legal;
   within_times = within_times P S K legal;

@@ -22,3 +22,5 @@ pub mod LegalRests
 pub mod LegalRequests
 pub mod CallNumbers
 pub mod LegalTrusted
+pub mod KernelAnswered
+pub mod BaseKept

@@ -26,7 +26,7 @@ use Rattle.sys_abi.specs.Errnos.{efault}
 use Rattle.std.proofs.Common.{◌++◌}
 
 -- a check of the call's id was good behind a place
-record IsCheckedBehind (K : List Event) (w c place : ℕ) : Type 0 where
+pub record IsCheckedBehind (K : List Event) (w c place : ℕ) : Type 0 where
   pub checked : ℕ
   pub later : place < checked
   pub good_check : event_at K checked ≡ Some (ev (Worker w) (Check (id K c) (Ok tt)))
@@ -53,7 +53,7 @@ AreKept K w (r ∷ more) = IsKeptRead K w r × AreKept K w more
 
 -- ---- one event more
 
-checked-older : (e : Event) (K : List Event) (w c place : ℕ) → session_call K w ≡ Some c → IsCheckedBehind K w c place → IsCheckedBehind (e ∷ K) w c place
+pub checked-older : (e : Event) (K : List Event) (w c place : ℕ) → session_call K w ≡ Some c → IsCheckedBehind K w c place → IsCheckedBehind (e ∷ K) w c place
 checked-older e K w c place h b =
     let l = event_at-below K b.checked _ b.good_check in
     let i = id-older e K c (is_call-below K c (hand_call K w c h)) in
@@ -76,7 +76,7 @@ unfolding AreKept
 older e K w [] same k = tt
 older e K w (r ∷ more) same k = (read-older e K w r same k.0, older e K w more same k.1)
 
-confirmed-fresh : (v : Worth) → (validated v ≡ Fresh) ⊎ (validated v ≡ Valid) → (v ≡ Fresh) ⊎ (v ≡ Valid)
+pub confirmed-fresh : (v : Worth) → (validated v ≡ Fresh) ⊎ (validated v ≡ Valid) → (v ≡ Fresh) ⊎ (v ≡ Valid)
 confirmed-fresh Foreign f = elim f [ inl q ↦ cc | inr q ↦ cc ]
 confirmed-fresh Stale f = elim f [ inl q ↦ cc | inr q ↦ cc ]
 confirmed-fresh Fresh f = inl refl
@@ -106,7 +106,7 @@ unfolding AreKept
 confirmed-all K w x [] own same k = tt
 confirmed-all K w x (r ∷ more) own same k = (confirmed-read K w x r own same k.0, confirmed-all K w x more own same k.1)
 
-fresh-parts : (p l : Bool) → ((if p then (if l then Fresh else Stale) else Foreign) ≡ Fresh) ⊎ ((if p then (if l then Fresh else Stale) else Foreign) ≡ Valid)
+pub fresh-parts : (p l : Bool) → ((if p then (if l then Fresh else Stale) else Foreign) ≡ Fresh) ⊎ ((if p then (if l then Fresh else Stale) else Foreign) ≡ Valid)
     → (p ≡ true) × (l ≡ true)
 fresh-parts true true f = (refl, refl)
 fresh-parts true false f = elim f [ inl q ↦ cc | inr q ↦ cc ]
@@ -117,7 +117,7 @@ new-fresh K w c g m f =
     let q = fresh-parts (is_place (group_named K (caller K c)) g) (listed K c) f in
     record { group = g; of_memory = m; of_caller = place-is (group_named K (caller K c)) g q.0; was_listed = q.1 }
 
-not-valid : (p l : Bool) → (if p then (if l then Fresh else Stale) else Foreign) ≡ Valid → ⊥
+pub not-valid : (p l : Bool) → (if p then (if l then Fresh else Stale) else Foreign) ≡ Valid → ⊥
 not-valid true true f = cc
 not-valid true false f = cc
 not-valid false l f = cc
@@ -142,7 +142,7 @@ new-read K w addr len answer g m same =
     }
 
 -- the seat's step
-same-hand : (K : List Event) (w : ℕ) (what : What) → call_after K what (session_call K w) ≡ session_call K w → session_call (ev (Worker w) what ∷ K) w ≡ session_call K w
+pub same-hand : (K : List Event) (w : ℕ) (what : What) → call_after K what (session_call K w) ≡ session_call K w → session_call (ev (Worker w) what ∷ K) w ≡ session_call K w
 unfolding session_call
 same-hand K w what h = rw (eq-eqb w w refl) h
 
@@ -174,7 +174,7 @@ worker-is (Task n) w h = cc
 worker-is (Worker v) w h = ap (λ (m : ℕ). Worker m) (eqb-true v w h)
 worker-is Listener w h = cc
 
-other-hand : (e : Event) (K : List Event) (w : ℕ) → is_worker e.who w ≡ false → session_call (e ∷ K) w ≡ session_call K w
+pub other-hand : (e : Event) (K : List Event) (w : ℕ) → is_worker e.who w ≡ false → session_call (e ∷ K) w ≡ session_call K w
 unfolding session_call
 other-hand e K w h = rw h refl
 

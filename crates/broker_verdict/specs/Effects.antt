@@ -1,7 +1,7 @@
 -- What is asked of an effect of a seat: a clause each, as a test that says where it is broken. K are the events before it, w the seat,
 -- and c the call that it has in hand.
 use Rattle.std.specs.Prelude.{ℕ, zero, ◌+◌, Bool, true, false, ◌&&◌, ◌||◌, not, if◌then◌else◌, ◌==◌, nat_eq, nat_le, bytes_eq}
-use Rattle.std.specs.Prelude.{List, [], ◌∷◌, slice_get, Option, Some, None, is_some, Ok, ℤ}
+use Rattle.std.specs.Prelude.{List, [], ◌∷◌, slice_get, Option, Some, None, is_some, Ok}
 use Rattle.std.specs.List.{list_any, starts_with}
 use Rattle.std.specs.Ordering.{int_eq}
 use Rattle.hist_model.specs.Calls.{caller, id}
@@ -11,7 +11,7 @@ use Rattle.hist_model.specs.Legal.{cloexec_of}
 use Rattle.hist_model.specs.Look.{is_place}
 use Rattle.hist_model.specs.Memory.{group_named}
 use Rattle.hist_model.specs.Requests.{low_16, low_32}
-use Rattle.hist_model.specs.Steps.{mem, place_or, session_call}
+use Rattle.hist_model.specs.Steps.{mem, session_call}
 use Rattle.hist_model.specs.Sysinfo.{container_sysinfo}
 use Rattle.hist_model.specs.declared.event.Actor.{Actor}
 use Rattle.hist_model.specs.declared.event.Actor.TheVariants.{Worker}
@@ -25,9 +25,9 @@ use Rattle.hist_model.specs.declared.request.Request.{Request}
 use Rattle.hist_model.specs.declared.request.Request.TheVariants.{Mknod, Mount, SetXattr, OpenAt, Sysinfo, Other}
 use Rattle.hist_model.specs.declared.script.Script.{Script}
 use Rattle.sys_abi.specs.declared.wire.Addfd.{Addfd}
-use Rattle.broker_verdict.specs.Choices.{decided}
-use Rattle.broker_verdict.specs.SeatCopies.{copies_of, fit_parts, gives_texts, plan_of, whole_in, worth_least}
-use Rattle.broker_verdict.specs.Seats.{dirfd_of_call, is_base_refused, is_checked, named_then, of_call, reads}
+use Rattle.broker_verdict.specs.Choices.{by_registers, decided, injects_by_registers}
+use Rattle.broker_verdict.specs.SeatCopies.{copies_of, fit_parts, gives_texts, plan_of, stood_all, whole_in, worth_least}
+use Rattle.broker_verdict.specs.Seats.{base_worth, is_base_refused, is_checked, of_call, rank, reads}
 use Rattle.broker_verdict.specs.Seats.{request_with, Worth, Foreign, Stale, Fresh, Valid}
 
 -- ---- what it asks for
@@ -76,31 +76,27 @@ is_empty_list [] = true
 is_empty_list (x ∷ xs) = false
 
 -- each byte of its texts, and the zero that ends one, was answered by a read that can be relied on so far at least: of the texts that an
--- act names, and for a descriptor of a whole copy. A plant rests on no texts
-abbrev pub rests_on : Worth → List Event → ℕ → ℕ → What → Bool
-rests_on least K w c (Act q cap answer) = gives_texts (worth_least least (reads K w)) (plan_of K c) (texts_of q)
-rests_on least K w c (AddfdPut asked answer) = not (is_empty_list (whole_in (copies_of least K w c)))
-rests_on least K w c _ = true
+-- act names, and for a descriptor of a whole copy, unless the policy puts it in whatever the texts are. A plant rests on no texts
+abbrev pub rests_on : Policy → Worth → List Event → ℕ → ℕ → What → Bool
+rests_on P least K w c (Act q cap answer) = gives_texts (worth_least least (reads K w)) (plan_of K c) (texts_of q)
+rests_on P least K w c (AddfdPut asked answer) = injects_by_registers P K c || not (is_empty_list (whole_in (copies_of least K w c)))
+rests_on P least K w c _ = true
 
 -- a byte of its texts wasn't read, or the call can't have them
-abbrev pub rests_on_nothing : List Event → ℕ → ℕ → What → Bool
-rests_on_nothing K w c what = not (can_have K c what && rests_on Foreign K w c what)
+abbrev pub rests_on_nothing : Policy → List Event → ℕ → ℕ → What → Bool
+rests_on_nothing P K w c what = not (can_have K c what && rests_on P Foreign K w c what)
 
 -- a byte was read in another memory than the caller's; and it is the caller's memory that a plant writes into
 abbrev pub writes_elsewhere : List Event → ℕ → ℕ → What → Bool
 writes_elsewhere K w c (Plant addr bytes cap answer) = not (of_call (mem K w) (is_place (group_named K (caller K c))))
 writes_elsewhere K w c _ = false
 
-abbrev pub rests_on_others : List Event → ℕ → ℕ → What → Bool
-rests_on_others K w c what = not (rests_on Stale K w c what) || writes_elsewhere K w c what
+abbrev pub rests_on_others : Policy → List Event → ℕ → ℕ → What → Bool
+rests_on_others P K w c what = not (rests_on P Stale K w c what) || writes_elsewhere K w c what
 
 -- a byte was read when the call was no longer listed
-abbrev pub rests_on_stale : List Event → ℕ → ℕ → What → Bool
-rests_on_stale K w c what = not (rests_on Fresh K w c what)
-
--- no good check follows the last read that it rests on; of a call without texts, there is none
-abbrev pub is_unchecked : List Event → ℕ → ℕ → What → Bool
-is_unchecked K w c what = not (rests_on Valid K w c what) || (is_empty_list (plan_of K c) && not (is_checked K w))
+abbrev pub rests_on_stale : Policy → List Event → ℕ → ℕ → What → Bool
+rests_on_stale P K w c what = not (rests_on P Fresh K w c what)
 
 -- ---- the directory from which it goes
 
@@ -111,24 +107,54 @@ abbrev pub is_relative : Option (List ℕ) → Bool
 is_relative (Some path) = not (is_absolute path)
 is_relative None = false
 
-abbrev pub is_base : Option ℕ → Option ℕ → Bool
-is_base (Some n) (Some m) = n == m
-is_base _ _ = false
+-- it walks a relative path
+abbrev pub goes_from_base : What → Bool
+goes_from_base (Act q cap answer) = is_relative (path_of q)
+goes_from_base _ = false
 
--- the base that the seat has is the directory that the call's descriptor named when it was opened
-abbrev pub has_own_base : Script → List Event → ℕ → ℕ → Option ℤ → Bool
-has_own_base S K w c (Some d) = is_base ((files S K).base w) (named_then S K w (place_or (group_named K (caller K c))) d)
-has_own_base S K w c None = false
+-- the seat has a base that can be relied on so far at least
+abbrev pub has_base : Worth → Script → List Event → ℕ → Bool
+has_base least S K w = is_some ((files S K).base w) && nat_le (rank least) (rank (base_worth S K w))
 
 -- the seat has no base, and its opening was answered that the call's descriptor leads to none
 abbrev pub has_none : Script → List Event → ℕ → Bool
 has_none S K w = not (is_some ((files S K).base w)) && is_base_refused S K w
 
--- a relative path goes from another directory than the caller's
-abbrev pub goes_elsewhere : Script → List Event → ℕ → ℕ → What → Bool
-goes_elsewhere S K w c (Act q cap answer) =
-    is_relative (path_of q) && not (has_own_base S K w c (dirfd_of_call K c) || has_none S K w)
-goes_elsewhere S K w c _ = false
+-- a relative path goes from another directory than the caller's, or from one that was opened when the call was no longer listed
+abbrev pub goes_elsewhere : Script → List Event → ℕ → What → Bool
+goes_elsewhere S K w what = goes_from_base what && not (has_base Fresh S K w || has_none S K w)
+
+-- ---- the check behind both
+
+-- no good check follows the opening of the directory from which it goes
+abbrev pub base_is_unchecked : Script → List Event → ℕ → What → Bool
+base_is_unchecked S K w what = goes_from_base what && (has_base Fresh S K w && not (has_base Valid S K w))
+
+-- no good check follows the last read that it rests on; of a call without texts, there is none behind the opening of its memory
+abbrev pub copy_is_unchecked : Policy → List Event → ℕ → ℕ → What → Bool
+copy_is_unchecked P K w c what = not (rests_on P Valid K w c what) || (is_empty_list (plan_of K c) && not (is_checked K w))
+
+abbrev pub is_unchecked : Policy → Script → List Event → ℕ → ℕ → What → Bool
+is_unchecked P S K w c what = copy_is_unchecked P K w c what || base_is_unchecked S K w what
+
+-- ---- one text, and not the parts of two
+
+-- two lists of texts are one
+abbrev pub texts_eq : List (List ℕ) → List (List ℕ) → Bool
+texts_eq [] [] = true
+texts_eq (a ∷ more) (b ∷ others) = bytes_eq a b && texts_eq more others
+texts_eq _ _ = false
+
+-- its texts stood so in the caller's memory, as far as the reads tell: a copy has them, or each was the newest at some moment
+abbrev pub stood_so : Worth → List Event → ℕ → ℕ → List (List ℕ) → Bool
+stood_so least K w c texts =
+    list_any (texts_eq texts) (whole_in (copies_of least K w c)) || stood_all (worth_least least (reads K w)) (plan_of K c) texts
+
+-- a text that it names is made of the bytes of two reads, and never stood so. Texts that the call can't have are unread
+abbrev pub is_torn : List Event → ℕ → ℕ → What → Bool
+is_torn K w c (Act q cap answer) =
+    fit_parts (plan_of K c) (texts_of q) && not (stood_so Valid K w c (texts_of q) || stood_so Fresh K w c (texts_of q))
+is_torn K w c _ = false
 
 -- ---- the policy
 
@@ -164,9 +190,19 @@ grants_just P S K c (Plant addr bytes cap answer) texts (i, Grant) = bytes_eq by
 grants_just P S K c (AddfdPut asked answer) texts (i, Inject src at) = is_put_of src at asked
 grants_just P S K c _ texts _ = false
 
+-- or for whatever texts
+abbrev pub grants_by_registers : Policy → Script → List Event → ℕ → What → Option (ℕ × Verdict) → Bool
+grants_by_registers P S K c what (Some d) = grants_just P S K c what [] d
+grants_by_registers P S K c what None = false
+
+-- by each of the texts for which it may be done, or by registers where there are none
+abbrev pub is_granted : Policy → Script → List Event → ℕ → What → List (List (List ℕ)) → Bool
+is_granted P S K c what [] = grants_by_registers P S K c what (by_registers P K c)
+is_granted P S K c what (texts ∷ more) = list_any (λ texts. grants_just P S K c what texts (decided P K c texts)) (texts ∷ more)
+
 -- the policy doesn't grant, or inject, just this for just these texts
 abbrev pub is_ungranted : Policy → Script → List Event → ℕ → ℕ → What → Bool
-is_ungranted P S K w c what = not (list_any (λ texts. grants_just P S K c what texts (decided P K c texts)) (texts_done K w c what))
+is_ungranted P S K w c what = not (is_granted P S K c what (texts_done K w c what))
 
 -- an act or a plant that was done
 abbrev pub is_done : What → Bool

@@ -1,4 +1,5 @@
 pub mod Seats
+pub mod KernelAnswers
 pub mod SeatCopies
 pub mod Choices
 pub mod Effects

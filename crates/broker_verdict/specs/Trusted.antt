@@ -1,7 +1,7 @@
 -- Whether a broker mediated: of each clause where it is broken, the first clause that is, and the histories that can be trusted.
 use Rattle.std.specs.Prelude.{◌≡◌, ℕ, Bool, true, false, ◌&&◌, ◌||◌, not, if◌then◌else◌, List, [], ◌∷◌, length}
-use Rattle.std.specs.Prelude.{Option, Some, None, is_some, Ok}
-use Rattle.hist_model.specs.Calls.{waiting}
+use Rattle.std.specs.Prelude.{Option, Some, None, Ok, Err}
+use Rattle.hist_model.specs.Calls.{answered, listed, waiting}
 use Rattle.hist_model.specs.Laws.{fetcher}
 use Rattle.hist_model.specs.Look.{is_place, oldest}
 use Rattle.hist_model.specs.Mediated.{Each}
@@ -11,47 +11,48 @@ use Rattle.hist_model.specs.declared.event.Actor.{Actor}
 use Rattle.hist_model.specs.declared.event.Actor.TheVariants.{Worker, Task}
 use Rattle.hist_model.specs.declared.event.Event.{Event}
 use Rattle.hist_model.specs.declared.event.What.{What}
-use Rattle.hist_model.specs.declared.event.What.TheVariants.{Recv, Send, LetGo, Install}
+use Rattle.hist_model.specs.declared.event.What.TheVariants.{Recv, Send, LetGo, Install, Act, Plant, AddfdPut}
 use Rattle.hist_model.specs.declared.policy.Policy.{Policy}
 use Rattle.hist_model.specs.declared.script.Script.{Script}
 use Rattle.broker_verdict.specs.declared.clause.Class.{Class}
 use Rattle.broker_verdict.specs.declared.clause.Class.TheVariants.{Harm, Answer, Order}
 use Rattle.broker_verdict.specs.declared.clause.Clause.{Clause}
 use Rattle.broker_verdict.specs.declared.clause.Clause.TheVariants.{EffectWithoutCall, OtherRequest, Unread, OtherMemory}
-use Rattle.broker_verdict.specs.declared.clause.Clause.TheVariants.{StaleCopy, Unchecked}
+use Rattle.broker_verdict.specs.declared.clause.Clause.TheVariants.{StaleCopy, Unchecked, Torn}
 use Rattle.broker_verdict.specs.declared.clause.Clause.TheVariants.{OtherBase, Ungranted, Spent, Again, AfterAnswer, AnswerWithoutCall}
 use Rattle.broker_verdict.specs.declared.clause.Clause.TheVariants.{OtherAnswer, Uncaused, DeniedOtherwise, PassedOtherwise}
 use Rattle.broker_verdict.specs.declared.clause.Clause.TheVariants.{GrantedNotDone, OtherOutcome, AnsweredAlready, Unanswered}
-use Rattle.broker_verdict.specs.Answers.{answers_other, denies_otherwise, has_no_cause, is_second, passes_otherwise}
+use Rattle.broker_verdict.specs.Answers.{answers_other, denies_otherwise, has_no_cause, is_again, is_second, passes_otherwise}
 use Rattle.broker_verdict.specs.Answers.{reports_undone, tells_otherwise}
-use Rattle.broker_verdict.specs.Effects.{asks_other, goes_elsewhere, is_too_often, is_unchecked, is_ungranted}
+use Rattle.broker_verdict.specs.Effects.{asks_other, goes_elsewhere, is_too_often, is_torn, is_unchecked, is_ungranted}
 use Rattle.broker_verdict.specs.Effects.{rests_on_nothing, rests_on_others, rests_on_stale}
-use Rattle.broker_verdict.specs.Seats.{effect_of, has_sent, is_effect, of_call}
+use Rattle.broker_verdict.specs.Seats.{has_sent, is_effect, of_call}
 
 -- ---- where a clause is broken
 
 -- by an effect for the call that the seat has in hand
 abbrev pub effect_breaks : Policy → Script → Clause → List Event → ℕ → ℕ → What → Bool
 effect_breaks P S OtherRequest K w c what = asks_other K c what
-effect_breaks P S Unread K w c what = rests_on_nothing K w c what
-effect_breaks P S OtherMemory K w c what = rests_on_others K w c what
-effect_breaks P S StaleCopy K w c what = rests_on_stale K w c what
-effect_breaks P S Unchecked K w c what = is_unchecked K w c what
-effect_breaks P S OtherBase K w c what = goes_elsewhere S K w c what
+effect_breaks P S Unread K w c what = rests_on_nothing P K w c what
+effect_breaks P S OtherMemory K w c what = rests_on_others P K w c what
+effect_breaks P S StaleCopy K w c what = rests_on_stale P K w c what
+effect_breaks P S Unchecked K w c what = is_unchecked P S K w c what
+effect_breaks P S Torn K w c what = is_torn K w c what
+effect_breaks P S OtherBase K w c what = goes_elsewhere S K w what
 effect_breaks P S Ungranted K w c what = is_ungranted P S K w c what
 effect_breaks P S Spent K w c what = is_too_often P K c what
-effect_breaks P S Again K w c what = is_some (effect_of K w)
+effect_breaks P S Again K w c what = is_again K w
 effect_breaks P S AfterAnswer K w c what = has_sent K w
 effect_breaks P S _ K w c what = false
 
--- by an answer for it
+-- by an answer for it. What the kernel refuses nobody is told: of it only the id is asked, and whether it is the second
 abbrev pub answer_breaks : Policy → Script → Clause → List Event → ℕ → ℕ → What → Bool
 answer_breaks P S OtherAnswer K w c (Send x back answer) = answers_other K c x
-answer_breaks P S Uncaused K w c (Send x back answer) = has_no_cause P K w c
-answer_breaks P S DeniedOtherwise K w c (Send x back answer) = denies_otherwise P S K w c back
-answer_breaks P S PassedOtherwise K w c (Send x back answer) = passes_otherwise P K w c back
-answer_breaks P S GrantedNotDone K w c (Send x back answer) = reports_undone K w c back
-answer_breaks P S OtherOutcome K w c (Send x back answer) = tells_otherwise K w c back
+answer_breaks P S Uncaused K w c (Send x back (Ok u)) = has_no_cause P K w c
+answer_breaks P S DeniedOtherwise K w c (Send x back (Ok u)) = denies_otherwise P S K w c back
+answer_breaks P S PassedOtherwise K w c (Send x back (Ok u)) = passes_otherwise P K w c back
+answer_breaks P S GrantedNotDone K w c (Send x back (Ok u)) = reports_undone K w c back
+answer_breaks P S OtherOutcome K w c (Send x back (Ok u)) = tells_otherwise K w c back
 answer_breaks P S AnsweredAlready K w c (Send x back answer) = is_second K w answer
 answer_breaks P S _ K w c what = false
 
@@ -105,8 +106,8 @@ breaks P S clause K e = breaks_by P S clause K e.who e.what || leaves_unanswered
 
 -- the clauses, in the order in which they are asked: of an effect, of an answer, and of a call
 abbrev pub clauses : List Clause
-clauses = EffectWithoutCall ∷ OtherRequest ∷ Unread ∷ OtherMemory ∷ StaleCopy ∷ Unchecked ∷ OtherBase ∷ Ungranted ∷ Spent ∷ Again
-    ∷ AfterAnswer ∷ AnswerWithoutCall ∷ OtherAnswer ∷ Uncaused ∷ DeniedOtherwise ∷ PassedOtherwise ∷ GrantedNotDone ∷ OtherOutcome
+clauses = EffectWithoutCall ∷ OtherRequest ∷ Unread ∷ OtherMemory ∷ StaleCopy ∷ Unchecked ∷ Torn ∷ OtherBase ∷ Ungranted ∷ Spent
+    ∷ Again ∷ AfterAnswer ∷ AnswerWithoutCall ∷ OtherAnswer ∷ Uncaused ∷ DeniedOtherwise ∷ PassedOtherwise ∷ GrantedNotDone ∷ OtherOutcome
     ∷ AnsweredAlready ∷ Unanswered ∷ []
 
 -- the first of them that is broken
@@ -132,9 +133,9 @@ unfoldable pub first_fault : Policy → Script → List Event → Option (ℕ ×
 first_fault P S [] = None
 first_fault P S (e ∷ K) = or_later (first_fault P S K) (at_place (length K) (broken_at P S K e))
 
--- where the broker does nothing more by itself: a call that was received and waits
+-- where the broker does nothing more by itself: a call that waits, whether it was received or not
 abbrev pub left_waiting : List Event → Option ℕ
-left_waiting K = oldest (λ c. waiting K c) (length K)
+left_waiting K = oldest (λ c. listed K c && not (answered K c)) (length K)
 
 -- ---- how grave it is
 
@@ -156,11 +157,24 @@ graver class more = class
 
 -- the clauses behind an effect's check
 abbrev pub later_clauses : List Clause
-later_clauses = OtherBase ∷ Ungranted ∷ Spent ∷ Again ∷ AfterAnswer ∷ []
+later_clauses = Torn ∷ OtherBase ∷ Ungranted ∷ Spent ∷ Again ∷ AfterAnswer ∷ []
+
+-- an effect that failed changed nothing
+abbrev pub did_nothing : What → Bool
+did_nothing (Act q cap (Err e)) = true
+did_nothing (Plant addr bytes cap (Err e)) = true
+did_nothing (AddfdPut asked (Err e)) = true
+did_nothing _ = false
+
+-- so it harms nobody, and breaks the order alone
+abbrev pub lessened : Class → Bool → Class
+lessened Harm true = Order
+lessened class failed = class
 
 -- the class of a clause that an event breaks: what breaks the order alone is as grave as what it breaks besides
 abbrev pub class_at : Policy → Script → List Event → Event → Clause → Class
-class_at P S K e clause = graver (class_of clause) (first_broken (λ later. breaks P S later K e) later_clauses)
+class_at P S K e clause =
+    lessened (graver (class_of clause) (first_broken (λ later. breaks P S later K e) later_clauses)) (did_nothing e.what)
 
 -- ---- all of it
 
@@ -178,6 +192,7 @@ pub record Trusted (P : Policy) (S : Script) (K : List Event) : Type 0 where
   pub own_memory : Keeps P S OtherMemory K
   pub read_in_time : Keeps P S StaleCopy K
   pub checked : Keeps P S Unchecked K
+  pub untorn : Keeps P S Torn K
   -- from the caller's directory
   pub own_base : Keeps P S OtherBase K
   -- what the policy grants, as often as it may

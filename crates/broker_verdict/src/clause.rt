@@ -26,6 +26,8 @@ pub enum Clause {
     StaleCopy,
     /// No good check follows what it rests on.
     Unchecked,
+    /// A text of it never stood so in the caller's memory.
+    Torn,
     /// Its path goes from another directory than the caller's.
     OtherBase,
     /// The policy doesn't grant just this for just these texts.

@@ -8,6 +8,7 @@ ghost use Rattle.hist_model.specs.Legal.{Legal, OfKernel};
 ghost use Rattle.hist_model.specs.PolicyRules.{IsPolicy};
 ghost use Rattle.hist_model.specs.ScriptRules.{IsScript};
 ghost use Rattle.broker_verdict.specs.Brokers.{AreTurns, Turn, asked};
+ghost use Rattle.broker_verdict.specs.KernelAnswers.{KernelAnswers};
 ghost use Rattle.broker_verdict.specs.Sentences.{Sentences};
 ghost use Rattle.broker_verdict.specs.Trusted.{Trusted, first_fault};
 ghost use Rattle.broker_verdict.specs.Verdicts.{Tells};
@@ -28,9 +29,9 @@ pub fn asked_is_of_the_kernel()
     ensures { (S : Script) (turns : List Turn) → AreTurns turns → length (asked S turns) < 2 ^ 64 → OfKernel S (asked S turns) }
 {}
 
-/// In a history of the kernel in which no clause is broken each notification is received and answered at most once, each answer and
-/// each descriptor is for the call of its own seat, and each act is what the policy grants on one copy of its call's arguments, each
-/// byte of which the seat read in the caller's memory while the call waited, and found valid afterwards.
+/// In a history of the kernel in which no clause is broken each notification is received and answered at most once, and each answer and
+/// each descriptor is for the call of its own seat. Each act is what the policy grants on one copy of its call's arguments. The seat read
+/// each byte of it in the caller's memory while the call waited, and found it valid afterwards. Each answer that was accepted has its cause.
 pub fn trusted_is_lawful()
     ensures { (P : Policy) (S : Script) (K : List Event) → OfKernel S K → Trusted P S K → Sentences P S K }
 {
@@ -41,4 +42,10 @@ pub fn trusted_is_lawful()
 /// on one copy of its arguments that they found valid, and answer what the policy says of it.
 pub fn legal_is_trusted()
     ensures { (P : Policy) (S : Script) (K : List Event) → IsPolicy (record { rules = P.rules }) → IsScript S → Legal P S K → Trusted P S K }
+{}
+
+/// The kernel answers ID_VALID, SEND and ADDFD as its tables say, a take tells what came of its request, and a call returns what was
+/// accepted for it.
+pub fn kernel_answers()
+    ensures { (S : Script) (K : List Event) → OfKernel S K → KernelAnswers S K }
 {}

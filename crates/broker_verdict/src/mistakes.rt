@@ -1,12 +1,12 @@
 //! For each clause a small history of the kernel that breaks it. The event is the first that breaks a clause, and the clause is
 //! the first that it breaks: so none that stands above it is broken there, and none at all before.
 
-ghost use Rattle.broker_verdict.specs.Mistakes.{Breaks, one_node, near_node, shut_node, two_figures, two_nodes, reused};
-ghost use Rattle.broker_verdict.specs.declared.clause.Clause.TheVariants.{EffectWithoutCall, OtherRequest, Unread, OtherMemory, StaleCopy, Unchecked, OtherBase, Ungranted, Spent, Again, AfterAnswer};
+ghost use Rattle.broker_verdict.specs.Mistakes.{Breaks, one_node, near_node, shut_node, two_figures, two_near, two_nodes, ran_on, reused, rewritten};
+ghost use Rattle.broker_verdict.specs.declared.clause.Clause.TheVariants.{EffectWithoutCall, OtherRequest, Unread, OtherMemory, StaleCopy, Unchecked, Torn, OtherBase, Ungranted, Spent, Again, AfterAnswer};
 ghost use Rattle.broker_verdict.specs.declared.clause.Clause.TheVariants.{AnswerWithoutCall, OtherAnswer, Uncaused, DeniedOtherwise, PassedOtherwise, GrantedNotDone, OtherOutcome, AnsweredAlready, Unanswered};
-ghost use Rattle.broker_verdict.specs.Mistakes.{acts_unasked, makes_other, reads_nothing, reads_another, reads_late, checks_before, opens_no_base, makes_denied};
+ghost use Rattle.broker_verdict.specs.Mistakes.{acts_unasked, makes_other, reads_nothing, reads_another, reads_late, checks_before, tears, opens_no_base, opens_base_late, opens_memory_late, keeps_base, makes_denied};
 ghost use Rattle.broker_verdict.specs.Mistakes.{tells_too_often, makes_again, acts_late, answers_unasked, answers_another, passes_unread, denies_with_another, passes_denied};
-ghost use Rattle.broker_verdict.specs.Mistakes.{tells_undone, hides_success, answers_twice, lets_go};
+ghost use Rattle.broker_verdict.specs.Mistakes.{tells_undone, tells_of_old, hides_success, answers_twice, lets_go};
 
 /// Mistakes of an effect.
 #[tactic(auto, using(crate::proofs::Mistaken::effects))]
@@ -17,6 +17,7 @@ pub fn effects_break()
     ensures reads_another { Breaks reused reads_another 12 OtherMemory }
     ensures reads_late { Breaks reused reads_late 10 StaleCopy }
     ensures checks_before { Breaks one_node checks_before 7 Unchecked }
+    ensures tears { Breaks rewritten tears 10 Torn }
     ensures opens_no_base { Breaks near_node opens_no_base 7 OtherBase }
     ensures makes_denied { Breaks shut_node makes_denied 7 Ungranted }
     ensures tells_too_often { Breaks two_figures tells_too_often 13 Spent }
@@ -41,4 +42,13 @@ pub fn answers_break()
 #[tactic(auto, using(crate::proofs::Mistaken::unanswered))]
 pub fn letting_go_breaks()
     ensures { Breaks one_node lets_go 4 Unanswered }
+{}
+
+/// What a call's effect rests on was opened too late, or for the call before; and a result is told that its task has undone since.
+#[tactic(auto, using(crate::proofs::Mistaken::kept_too_long))]
+pub fn keeping_breaks()
+    ensures opens_base_late { Breaks near_node opens_base_late 8 Unchecked }
+    ensures opens_memory_late { Breaks two_figures opens_memory_late 5 Unchecked }
+    ensures keeps_base { Breaks two_near keeps_base 15 OtherBase }
+    ensures tells_of_old { Breaks ran_on tells_of_old 17 GrantedNotDone }
 {}

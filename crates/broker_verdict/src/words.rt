@@ -17,6 +17,7 @@ pub fn clause_name(clause: Clause) -> &'static str
         Clause::OtherMemory => "other-memory",
         Clause::StaleCopy => "stale-copy",
         Clause::Unchecked => "unchecked",
+        Clause::Torn => "torn",
         Clause::OtherBase => "other-base",
         Clause::Ungranted => "ungranted",
         Clause::Spent => "spent",
@@ -45,6 +46,7 @@ pub fn clause_text(clause: Clause) -> &'static str
         Clause::OtherMemory => "the memory that was open isn't the caller's",
         Clause::StaleCopy => "a text was read when the call was no longer listed",
         Clause::Unchecked => "no good check follows what it rests on",
+        Clause::Torn => "a text of it never stood so in the caller's memory",
         Clause::OtherBase => "its path goes from another directory than the caller's",
         Clause::Ungranted => "the policy doesn't grant just this for just these texts",
         Clause::Spent => "the rule's times were spent",
@@ -81,6 +83,7 @@ pub fn class_of(clause: Clause) -> Class
         | Clause::Unread
         | Clause::OtherMemory
         | Clause::StaleCopy
+        | Clause::Torn
         | Clause::OtherBase
         | Clause::Ungranted
         | Clause::Spent

@@ -1,11 +1,11 @@
 -- What events make of the calls that are kept.
 -- Each moves at most one call: that of its task, or that which its id names.
-use Rattle.std.proofs.Common.{◌≡◌, ℕ, ◌+◌, ◌-◌, ◌%◌, ◌^◌, ◌<◌, ◌≤◌, Bool, true, false, ◌&&◌, ◌||◌, not, List, [], ◌∷◌, ◌++◌, length, refl, sym, ap, ◌∙◌, arith, inl, inr, Some, None}
+use Rattle.std.proofs.Common.{◌≡◌, ℕ, ◌+◌, ◌%◌, ◌^◌, ◌<◌, ◌≤◌, Bool, true, false, ◌&&◌, ◌||◌, not, List, [], ◌∷◌, ◌++◌, length, refl, sym, ap, ◌∙◌, arith, inl, inr, Some, None}
 use Rattle.std.specs.Prelude.{get_or}
 use Rattle.std.proofs.Math.ListN.{set}
 use Rattle.std.proofs.lemmas.Bool.{and_parts, both_ways, cases_Bool}
 use Rattle.std.proofs.lemmas.List.{length-append, length-set}
-use Rattle.hist_model.specs.Calls.{answers, caller, calls, fetches, id, installs_for, is_call, listed, notify_id, puts_to, queue}
+use Rattle.hist_model.specs.Calls.{answers, caller, calls, fetches, id, installs_for, is_call, listed, notify_id, puts_to}
 use Rattle.hist_model.specs.Kinds.{closes, leaves, makes, notifies}
 use Rattle.hist_model.specs.Laws.{fetcher}
 use Rattle.hist_model.specs.Legal.{system_of}

@@ -1,6 +1,6 @@
 -- What is kept of a call, when one more event comes.
 -- By what the event leaves of the look-backs for the call's place.
-use Rattle.std.proofs.Common.{◌≡◌, ℕ, ◌+◌, ◌-◌, ◌<◌, Bool, true, false, ◌&&◌, ◌||◌, List, [], ◌∷◌, ◌++◌, length, refl, sym, ◌∙◌, arith}
+use Rattle.std.proofs.Common.{◌≡◌, ℕ, ◌<◌, Bool, true, false, ◌&&◌, ◌||◌, List, [], ◌∷◌, ◌++◌, length, refl, sym, ◌∙◌, arith}
 use Rattle.std.specs.Prelude.{is_some, Ok}
 use Rattle.broker_verdict.specs.Seats.{is_effect}
 use Rattle.hist_model.specs.Calls.{answers, caller, fetched, fetches, id, installs_for, listed, puts_to, queue, settled, settles, unlists}

@@ -1,17 +1,13 @@
 -- The group of a call's task, by its ordinal.
 -- By what is kept of the call and of its task.
-use Rattle.std.proofs.Common.{◌≡◌, ℕ, ◌<◌, List, length, get_or, inl, inr, ◌||◌, Option, Some, ℤ, ap, sym, ◌∙◌, arith}
-use Rattle.std.proofs.Math.Bool.{or-false}
+use Rattle.std.proofs.Common.{◌≡◌, ℕ, ◌<◌, List, length, get_or, inl, inr, ap, sym, ◌∙◌, arith}
 use Rattle.std.proofs.lemmas.Option.{slice_get_cases}
 use Rattle.hist_model.specs.Calls.{caller}
-use Rattle.hist_model.specs.Files.{files}
 use Rattle.hist_model.specs.Memory.{group_named}
 use Rattle.hist_model.specs.declared.event.Event.{Event}
 use Rattle.hist_model.specs.declared.policy.Policy.{Policy}
 use Rattle.hist_model.specs.declared.script.Script.{Script}
 use Rattle.history_frames.specs.Ordinals.{group_of, groups_made}
-use Rattle.broker_verdict.specs.Effects.{has_none, has_own_base, is_base}
-use Rattle.broker_verdict.specs.Seats.{dirfd_of_call, named_then}
 use Rattle.judge_pass.specs.declared.calls.Call.{Call}
 use Rattle.judge_pass.specs.declared.judge.Judge.{Judge}
 use Rattle.judge_pass.specs.declared.task_table.Task.{Task}
@@ -36,9 +32,3 @@ callers_group P S K j n call g h is known =
       is = ap (group_named K) is.caller_is ∙ kept.group_is ∙ ap (group_of K) (sym (known d));
       made = rw (← known d) at kept.group_made;
     }
-
--- where the seat has a base: it is the directory that the call's descriptor named
-pub starts_from : (S : Script) (K : List Event) (w c p : ℕ) (d : ℤ) (base : ℕ) (named : Option ℕ) → dirfd_of_call K c ≡ Some d → (files S K).base w ≡ Some base
-    → group_named K (caller K c) ≡ Some p → named_then S K w p d ≡ named
-    → (has_own_base S K w c (dirfd_of_call K c) || has_none S K w) ≡ is_base (Some base) named
-starts_from S K w c p d base named dirfd_is base_is group_is named_is = rw (dirfd_is, base_is, group_is, named_is) (or-false (is_base (Some base) named))

@@ -1,13 +1,13 @@
 -- What came of an effect, by its number.
 -- By the place that is kept of it, and the event that stands there.
 use Rattle.std.proofs.Common.{◌≡◌, ℕ, ◌<◌, Bool, true, false, ◌&&◌, List, reverse, length, get_or, Some, refl, ap, sym, ◌∙◌, arith}
-use Rattle.std.specs.Prelude.{not}
+use Rattle.std.specs.Prelude.{is_some, not}
 use Rattle.hist_model.specs.declared.event.Event.{Event}
 use Rattle.hist_model.specs.declared.policy.Policy.{Policy}
 use Rattle.hist_model.specs.declared.script.Script.{Script}
 use Rattle.hist_model.proofs.Scans.{event_at_past}
 use Rattle.history_frames.specs.Ordinals.{nth_of}
-use Rattle.broker_verdict.specs.Answers.{has_effect, outcome_at, outcome_of, what_done, what_in}
+use Rattle.broker_verdict.specs.Answers.{has_effect, has_failed, is_again, outcome_at, outcome_of, what_done, what_in}
 use Rattle.broker_verdict.specs.Seats.{effect_of, is_effect}
 use Rattle.judge_pass.specs.declared.done.Done.{Done}
 use Rattle.judge_pass.specs.declared.judge.Judge.{Judge}
@@ -44,3 +44,7 @@ own_outcome P S K w n seat is has = ap (outcome_at K) (sym (is.effect_is ∙ ap 
 pub allowed : (K : List Event) (w p : ℕ) (b : Bool) → effect_of K w ≡ Some p → b ≡ not (has_effect K w && not b)
 allowed K w p true at = rw at refl
 allowed K w p false at = rw at refl
+
+-- an effect that there was, with its outcome
+pub again : (K : List Event) (w : ℕ) (failed : Bool) → is_some (effect_of K w) ≡ true → failed ≡ has_failed (outcome_at K (effect_of K w)) → not failed ≡ is_again K w
+again K w failed some h = rw (some, h) refl

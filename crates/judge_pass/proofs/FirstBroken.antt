@@ -1,7 +1,7 @@
 -- The first clause that an effect or an answer breaks, by parts.
 -- By the definition at each clause in turn, for each kind of event.
-use Rattle.std.proofs.Common.{◌≡◌, ℕ, Bool, true, false, List, [], ◌∷◌, ◌++◌, Option, Some, None, Result, refl}
-use Rattle.std.specs.Prelude.{if◌then◌else◌}
+use Rattle.std.proofs.Common.{◌≡◌, ℕ, Bool, true, false, List, [], ◌∷◌, ◌++◌, Option, Some, None, Result, refl, ◌∙◌}
+use Rattle.std.specs.Prelude.{if◌then◌else◌, Ok, Err}
 use Rattle.std.proofs.Math.Bool.{or-false}
 use Rattle.hist_model.specs.Steps.{session_call}
 use Rattle.hist_model.specs.declared.event.Actor.TheVariants.{Worker}
@@ -17,7 +17,7 @@ use Rattle.broker_verdict.specs.Seats.{is_effect}
 use Rattle.broker_verdict.specs.Trusted.{answer_breaks, breaks_by, clauses, effect_breaks, first_broken, later_clauses}
 use Rattle.broker_verdict.specs.declared.clause.Clause.{Clause}
 use Rattle.broker_verdict.specs.declared.clause.Clause.TheVariants.{AnsweredAlready, AnswerWithoutCall, EffectWithoutCall}
-use Rattle.judge_pass.specs.Clauses.{clauses_behind_policy, clauses_of_answers, clauses_of_effects, clauses_of_outcome, clauses_of_policy, clauses_of_reads}
+use Rattle.judge_pass.specs.Clauses.{clauses_of_accepted, clauses_of_answers, clauses_of_effects, clauses_of_outcome, clauses_of_policy, clauses_of_reads}
 
 pub first_of_effect : (P : Policy) (S : Script) (K : List Event) (w c : ℕ) (what : What) → is_effect what ≡ true → session_call K w ≡ Some c
     → first_broken (λ clause. breaks_by P S clause K (Worker w) what) clauses ≡ first_broken (λ clause. effect_breaks P S clause K w c what) clauses_of_effects
@@ -47,6 +47,10 @@ no_later_without_call P S K w what s = rw s refl
 abbrev pub or_first : Option Clause → Option Clause → Option Clause
 or_first (Some clause) more = Some clause
 or_first None more = more
+
+or_none : (o : Option Clause) → or_first o None ≡ o
+or_none (Some clause) = refl
+or_none None = refl
 
 pub first_of_both : (broken : Clause → Bool) (some more : List Clause) → first_broken broken (some ++ more) ≡ or_first (first_broken broken some) (first_broken broken more)
 first_of_both broken [] more = refl
@@ -80,12 +84,17 @@ answer_without_call P S K w id back answer s = rw s refl
 abbrev pub first_said : Policy → Script → List Event → ℕ → ℕ → What → List Clause → Option Clause
 first_said P S K w c what some = first_broken (λ clause. answer_breaks P S clause K w c what) some
 
-pub then_policy : (P : Policy) (S : Script) (K : List Event) (w c id : ℕ) (back : Back) (answer : Result (Unit {0}) ℕ) → answers_other K c id ≡ false
-    → first_said P S K w c (Send id back answer) clauses_of_answers
-    ≡ or_first (first_said P S K w c (Send id back answer) clauses_of_policy) (first_said P S K w c (Send id back answer) clauses_behind_policy)
-then_policy P S K w c id back answer h = rw h (first_of_both (λ clause. answer_breaks P S clause K w c (Send id back answer)) clauses_of_policy clauses_behind_policy)
+pub then_accepted : (P : Policy) (S : Script) (K : List Event) (w c id : ℕ) (back : Back) → answers_other K c id ≡ false
+    → first_said P S K w c (Send id back (Ok tt)) clauses_of_answers ≡ first_said P S K w c (Send id back (Ok tt)) clauses_of_accepted
+then_accepted P S K w c id back h =
+    rw h (first_of_both (λ clause. answer_breaks P S clause K w c (Send id back (Ok tt))) clauses_of_accepted (AnsweredAlready ∷ []) ∙ or_none _)
 
-pub then_second : (P : Policy) (S : Script) (K : List Event) (w c id : ℕ) (back : Back) (answer : Result (Unit {0}) ℕ)
-    → first_said P S K w c (Send id back answer) clauses_behind_policy
-    ≡ or_first (first_said P S K w c (Send id back answer) clauses_of_outcome) (if is_second K w answer then Some AnsweredAlready else None)
-then_second P S K w c id back answer = first_of_both (λ clause. answer_breaks P S clause K w c (Send id back answer)) clauses_of_outcome (AnsweredAlready ∷ [])
+pub then_policy : (P : Policy) (S : Script) (K : List Event) (w c id : ℕ) (back : Back)
+    → first_said P S K w c (Send id back (Ok tt)) clauses_of_accepted
+    ≡ or_first (first_said P S K w c (Send id back (Ok tt)) clauses_of_policy) (first_said P S K w c (Send id back (Ok tt)) clauses_of_outcome)
+then_policy P S K w c id back = first_of_both (λ clause. answer_breaks P S clause K w c (Send id back (Ok tt))) clauses_of_policy clauses_of_outcome
+
+-- an answer that its call wasn't given
+pub then_second : (P : Policy) (S : Script) (K : List Event) (w c id e : ℕ) (back : Back) → answers_other K c id ≡ false
+    → first_said P S K w c (Send id back (Err e)) clauses_of_answers ≡ (if is_second K w (Err e) then Some AnsweredAlready else None)
+then_second P S K w c id e back h = rw h refl

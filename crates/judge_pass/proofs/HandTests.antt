@@ -3,11 +3,11 @@
 use Rattle.std.proofs.Common.{◌≡◌, ℕ, ◌<◌, Bool, true, false, ◌&&◌, List, ◌∷◌, length, refl, sym, ap, ◌∙◌, subst, arith, inl, inr, Option, Some, None}
 use Rattle.std.specs.Prelude.{get_or, if◌then◌else◌, IfSome, is_none as not_some, is_some, not, ◌==◌, ℤ}
 use Rattle.std.proofs.lemmas.Bool.{cases_Bool, eq-eqb, eqb-true}
-use Rattle.broker_verdict.specs.Seats.{directory_named, dirfd_of_call, Foreign, Fresh, has_no_base, is_dirfd, is_own_id, of_call, Stale, worth_now}
-use Rattle.hist_model.specs.Calls.{caller, id, listed}
+use Rattle.broker_verdict.specs.Seats.{directory_named, dirfd_of_call, Foreign, Fresh, has_no_base, is_base, is_dirfd, is_of_call, is_own_id, of_call, Stale, worth_now}
+use Rattle.hist_model.specs.Calls.{caller, listed}
 use Rattle.hist_model.specs.Look.{is_place}
 use Rattle.hist_model.specs.Memory.{group_named}
-use Rattle.hist_model.specs.Steps.{group, opened, place_or, session_call}
+use Rattle.hist_model.specs.Steps.{opened, place_or, session_call}
 use Rattle.hist_model.specs.Files.{files}
 use Rattle.hist_model.specs.Natives.{base_of}
 use Rattle.hist_model.specs.Requests.{base_dirfd}
@@ -115,16 +115,28 @@ none-same : (o : Option NodeRef) → is_none (ordinal_of o) ≡ not_some o
 none-same None = refl
 none-same (Some n) = refl
 
+-- where a descriptor of a call's task leads
+pub directory-is : (P : Policy) (S : Script) (K : List Event) (j : Judge) (n g : ℕ) (d : ℤ) (call : Call) (named : Option NodeRef) → Stands P S K j → IsCall S K n call
+    → ((t : Task) → g ≡ (get_or j.tasks.items call.caller t).group) → ordinal_of named ≡ dirfd_named S j.directories.rows.items g d → directory_named S K call.place d ≡ ordinal_of named
+directory-is P S K j n g d call named s h known leads =
+    let c = callers_group P S K j n call g s h known in
+    let p = made_group K g c.made in
+    ap (λ (o : Option ℕ). base_of S (files S K) (place_or o) d) (c.is ∙ p.1) ∙ (s.directories g p.0 d p.1 ∙ sym leads)
+
 pub based-some : (P : Policy) (S : Script) (K : List Event) (j : Judge) (w n g : ℕ) (d : ℤ) (call : Call) (named : Option NodeRef) → Stands P S K j → IsCall S K n call → session_call K w ≡ Some call.place
     → ((t : Task) → g ≡ (get_or j.tasks.items call.caller t).group) → ordinal_of named ≡ dirfd_named S j.directories.rows.items g d
     → (is_dirfd (base_dirfd call.called.nr call.called.args) d && not_some named) ≡ of_call (session_call K w) (λ c. has_no_base S K c d)
 based-some P S K j w n g d call named s h hand known leads =
-    let c = callers_group P S K j n call g s h known in
-    let p = made_group K g c.made in
-    let where-is : group_named K (caller K call.place) ≡ Some p.0 = c.is ∙ p.1 in
-    let named-is : directory_named S K call.place d ≡ ordinal_of named = ap (λ (o : Option ℕ). base_of S (files S K) (place_or o) d) where-is ∙ (s.directories g p.0 d p.1 ∙ sym leads) in
     let dirfd-is : dirfd_of_call K call.place ≡ base_dirfd call.called.nr call.called.args = rw (h.called.nr_is, h.called.args_are) refl in
-    rw (hand, named-is, dirfd-is, none-same named) refl
+    rw (hand, directory-is P S K j n g d call named s h known leads, dirfd-is, none-same named) refl
+
+-- whether a directory is the one to which the call's descriptor leads
+pub of-call-some : (P : Policy) (S : Script) (K : List Event) (j : Judge) (n g : ℕ) (d : ℤ) (call : Call) (named : Option NodeRef) (there : Option ℕ) → Stands P S K j → IsCall S K n call
+    → ((t : Task) → g ≡ (get_or j.tasks.items call.caller t).group) → ordinal_of named ≡ dirfd_named S j.directories.rows.items g d → base_dirfd call.called.nr call.called.args ≡ Some d
+    → is_base there (ordinal_of named) ≡ is_of_call S K call.place (dirfd_of_call K call.place) there
+of-call-some P S K j n g d call named there s h known leads has =
+    let dirfd-is : dirfd_of_call K call.place ≡ Some d = rw (h.called.nr_is, h.called.args_are) has in
+    rw (dirfd-is, directory-is P S K j n g d call named s h known leads) refl
 
 pub flip : (o : Option NodeRef) (b : Bool) → is_some o ≡ not b → b ≡ not_some o
 flip None true h = refl

@@ -14,7 +14,7 @@ use Rattle.hist_model.specs.declared.event.What.TheVariants.{Act, AddfdPut, Plan
 use Rattle.hist_model.specs.declared.policy.Policy.{Policy}
 use Rattle.hist_model.specs.declared.script.Script.{Script}
 use Rattle.broker_verdict.specs.Seats.{is_effect}
-use Rattle.broker_verdict.specs.Trusted.{breaks, breaks_by, broken_at, class_at, class_of, clauses, first_broken, graver, later_clauses, leaves_unanswered}
+use Rattle.broker_verdict.specs.Trusted.{breaks, breaks_by, broken_at, class_at, class_of, clauses, did_nothing, first_broken, graver, later_clauses, leaves_unanswered, lessened}
 use Rattle.broker_verdict.specs.declared.clause.Clause.{Clause}
 use Rattle.broker_verdict.specs.declared.clause.Clause.TheVariants.{AnswerWithoutCall, EffectWithoutCall, Unanswered}
 use Rattle.judge_pass.specs.Clauses.{clauses_of_answers, clauses_of_effects}
@@ -74,8 +74,9 @@ module _ (P : Policy) (S : Script) (K : List Event) (e : Event) where
   later-same = simp or-false
 
   -- the class of what an event breaks
-  pub class-here : (clause : Clause) → class_at P S K e clause ≡ graver (class_of clause) (first_broken (λ later. breaks_by P S later K e.who e.what) later_clauses)
-  class-here clause = ap (graver (class_of clause)) later-same
+  pub class-here : (clause : Clause) → class_at P S K e clause
+      ≡ lessened (graver (class_of clause) (first_broken (λ later. breaks_by P S later K e.who e.what) later_clauses)) (did_nothing e.what)
+  class-here clause = ap (λ (later : Option Clause). lessened (graver (class_of clause) later) (did_nothing e.what)) later-same
 
 -- ---- steps that are neither effects nor answers
 

@@ -8,6 +8,7 @@ pub mod Copied
 pub mod DoneRows
 pub mod EffectEvents
 pub mod EffectsFor
+pub mod EnteredAnew
 pub mod EventTold
 pub mod FirstBroken
 pub mod Found

@@ -58,3 +58,22 @@ may_be P S K j effect call c d p done earlier later given h low lower done_is ea
       d_at,
       c_at,
     ) refl
+
+-- the places of the two calls
+pub record CallsAt (c d : ℕ) (earlier later : Call) : Type 0 where
+  pub later_at : later.place ≡ c
+  pub earlier_at : earlier.place ≡ d
+
+pub calls_at : (P : Policy) (S : Script) (K : List Event) (j : Judge) (effect call c p d : ℕ) (done : Done) (earlier later : Call) → Stands P S K j → effect < effects_kept j
+    → call < calls_kept j → done ≡ get_or j.done.items effect done → earlier ≡ get_or j.calls.rows.items done.call earlier → later ≡ get_or j.calls.rows.items call later
+    → nth_of is_effect K effect ≡ Some p → hand_at K p ≡ Some d → nth_of notifies K call ≡ Some c → CallsAt c d earlier later
+calls_at P S K j effect call c p d done earlier later h low lower done_is earlier_is later_is p_is d_is c_is =
+    let kept : IsDone K effect done = rw (← done_is) at (h.done effect done (omega (arith, h.done_are, low))) in
+    let second : IsCall S K call later = rw (← later_is) at (h.calls call later (omega (arith, h.calls_are, lower))) in
+    let first : IsCall S K done.call earlier = rw (← earlier_is) at (h.calls done.call earlier kept.call_made) in
+    let at : Some p ≡ Some done.place = sym p_is ∙ kept.place_is in
+    let p_at : done.place ≡ p = cc in
+    let hand : nth_of notifies K done.call ≡ Some d = sym (rw p_at at kept.call_is) ∙ d_is in
+    let old : Some earlier.place ≡ Some d = sym first.place_is ∙ hand in
+    let new : Some later.place ≡ Some c = sym second.place_is ∙ c_is in
+    record { later_at = cc; earlier_at = cc }

@@ -1,15 +1,14 @@
--- What a group that isn't made yet has open: nothing; and what descriptors led to when a base was opened.
+-- What a group that isn't made yet has open: nothing; and which steps change a worker's base.
 -- By induction on the history.
-use Rattle.std.proofs.Common.{◌≡◌, ℕ, ◌<◌, ◌≤◌, ◌-◌, Bool, true, false, ◌&&◌, List, [], ◌∷◌, length, refl, sym, ap, ◌∙◌, arith, inl, inr, Option, Some, None, ◌⊎◌}
-use Rattle.std.specs.Prelude.{if◌then◌else◌, is_some, IsSome, Ok, ◌==◌, ℤ, pos, negsuc}
-use Rattle.std.proofs.lemmas.Bool.{and_parts, cases_Bool, eqb-true, eq-eqb}
+use Rattle.std.proofs.Common.{◌≡◌, ℕ, ◌<◌, ◌≤◌, Bool, true, false, ◌&&◌, List, [], ◌∷◌, length, refl, ◌∙◌, arith, inl, inr, Option, Some, None, ◌⊎◌}
+use Rattle.std.specs.Prelude.{Ok, ◌==◌, ℤ}
+use Rattle.std.proofs.lemmas.Bool.{cases_Bool, eqb-true, eq-eqb}
 use Rattle.std.proofs.lemmas.Bool.Decides.{nat_tests}
-use Rattle.broker_verdict.specs.Seats.{named_then, opens_directory}
 use Rattle.hist_model.specs.Files.{after_native, after_spawn, files, files_after}
 use Rattle.hist_model.specs.Kinds.{shares_now}
 use Rattle.hist_model.specs.Look.{is_worker, task_name}
 use Rattle.hist_model.specs.Memory.{own_group}
-use Rattle.hist_model.specs.Natives.{base_of, Changes, Closes, Fails, Files, Gives, NativeStep, Opens, root, Writes}
+use Rattle.hist_model.specs.Natives.{base_of, Changes, Closes, Fails, Files, Gives, NativeStep, Opens, Writes}
 use Rattle.hist_model.specs.Steps.{group, no_place, opened, place_or, task_place}
 use Rattle.hist_model.specs.Tasks.{holder}
 use Rattle.hist_model.specs.declared.event.Actor.{Actor}
@@ -84,17 +83,7 @@ slot-unmade S (e ∷ K) p n l m =
     let h : (p == length K) ≡ false = grind (arith, nat_tests) in
     slot-after S K (files S K) e.who e.what p n h (own-other K e.who p (omega (arith, l)) m) ∙ ih
 
--- ---- what descriptors led to when a base was opened
-
-pub named-unmade : (S : Script) (K : List Event) (w p n : ℕ) → length K ≤ p → p < no_place → named_then S K w p (pos n) ≡ None
-unfolding named_then
-named-unmade S [] w p n l m = refl
-named-unmade S (e ∷ K) w p n l m =
-    let ih = named-unmade S K w p n (omega (arith, l)) m in
-    elim (cases_Bool (is_worker e.who w && opens_directory e.what)) [
-      | inr f ↦ rw f ih
-      | inl t ↦ rw (t, slot-unmade S K p n (omega (arith, l)) m) refl
-    ]
+-- ---- the base of a worker
 
 -- the step opens or drops a base
 abbrev pub moves_base : What → Bool
@@ -117,35 +106,3 @@ pub base-opened : (S : Script) (e : Event) (K : List Event) (w p : ℕ) (d : ℤ
     → (files S (e ∷ K)).base w ≡ base_of S (files S K) (place_or (opened K (holder K p))) d
 unfolding files
 base-opened S e K w p d u h q = rw (h, q, eq-eqb w w refl) refl
-
--- AT_FDCWD is the root, once a base is open
-pub named-root : (S : Script) (K : List Event) (w p n : ℕ) → IsSome ((files S K).base w) → named_then S K w p (negsuc n) ≡ (if n == 99 then Some S.root.ordinal else None)
-unfolding named_then files
-named-root S [] w p n h = cc
-named-root S (e ∷ K) w p n h =
-    let ih = named-root S K w p n in
-    elim (cases_Bool (is_worker e.who w && opens_directory e.what)) [
-      | inl t ↦ rw t refl
-      | inr f ↦ elim (cases_Bool (is_worker e.who w && moves_base e.what)) [
-        | inr z ↦ rw f (ih (ap is_some (sym (base-same S e K w z)) ∙ h))
-        | inl z ↦
-            let q = and_parts (is_worker e.who w) (moves_base e.what) z in
-            let g : e.what ≡ LetGo = dropping e.what q.1 (and-right (is_worker e.who w) (opens_directory e.what) q.0 f) in
-            absurd (none-some ((files S (e ∷ K)).base w) (base-dropped S e K w q.0 g) h)
-      ]
-    ]
-  where
-    and-right : (a b : Bool) → a ≡ true → (a && b) ≡ false → b ≡ false
-    and-right true b x y = y
-    and-right false b x y = cc
-
-    dropping : (v : What) → moves_base v ≡ true → opens_directory v ≡ false → v ≡ LetGo
-    dropping v x y = grind arith
-
-    none-some : (o : Option ℕ) → o ≡ None → is_some o ≡ true → ⊥
-    none-some None x y = cc
-    none-some (Some m) x y = cc
-
-pub named-opened : (S : Script) (e : Event) (K : List Event) (w p : ℕ) (d : ℤ) → e.who ≡ Worker w → opens_directory e.what ≡ true → named_then S (e ∷ K) w p d ≡ base_of S (files S K) p d
-unfolding named_then
-named-opened S e K w p d h q = rw (h, q, eq-eqb w w refl) refl

@@ -1,9 +1,10 @@
 -- The effect for an earlier call whose result may be told, among those that are kept of the task that made the call.
 -- By what each test looks at, one after another.
-use Rattle.std.proofs.Common.{◌≡◌, ℕ, ◌+◌, ◌<◌, Bool, true, false, List, [], ◌∷◌, ◌++◌, length, Option, Some, None, inl, inr, refl, ap, sym, ◌∙◌, arith}
-use Rattle.std.specs.Prelude.{◌&&◌, not, ◌==◌, find, is_some, nat_le, Ok, Err}
+use Rattle.std.proofs.Common.{◌≡◌, ℕ, ◌<◌, Bool, true, false, List, [], ◌∷◌, ◌++◌, length, Option, Some, None, inl, inr, refl, ap, sym, ◌∙◌, arith}
+use Rattle.std.specs.Prelude.{◌&&◌, not, ◌==◌, find, is_some, nat_le, nat_lt, Ok, Err}
 use Rattle.std.specs.List.{AllByRecursion}
 use Rattle.std.proofs.lemmas.Bool.{and_parts, cases_Bool}
+use Rattle.std.proofs.lemmas.Bool.Decides.{nat_tests}
 use Rattle.hist_model.specs.Calls.{actor_in, caller, settled}
 use Rattle.hist_model.specs.Look.{before, event_at, Name, name_eq}
 use Rattle.hist_model.specs.declared.event.Actor.{Actor}
@@ -16,14 +17,14 @@ use Rattle.mediation.proofs.KernelCalls.{before-newest, before-older, length-bef
 use Rattle.history_frames.specs.Ordinals.{count_of, nth_of}
 use Rattle.history_frames.proofs.Listed.{is_call-below}
 use Rattle.history_frames.proofs.Ordinals.{place-below, place-cases, place-new, place-old}
-use Rattle.broker_verdict.specs.Answers.{are_alike, gave_at, is_of_earlier, is_told, is_untold, is_untold_by, number_in, outcome_of, remembered, seat_of, share_texts, valid_texts}
+use Rattle.broker_verdict.specs.Answers.{are_alike, gave_at, is_entered_anew, is_of_earlier, is_told, is_untold, is_untold_by, may_share_texts, number_in, outcome_of, remembered, seat_of, valid_texts}
 use Rattle.broker_verdict.specs.Effects.{seat_call, texts_done}
 use Rattle.broker_verdict.specs.Seats.{is_effect, of_call}
 use Rattle.broker_verdict.proofs.Own.{hand_call}
 use Rattle.judge_pass.specs.declared.done.Done.{Done}
 use Rattle.judge_pass.specs.declared.done.Put.{Put}
 use Rattle.judge_pass.specs.Stands.{asks_descriptor, effects_for, gives_to, hand_at, IsDone, IsPutOf, may_give, place_of_effect, seat_at, what_at}
-use Rattle.judge_pass.specs.Told.{can_be_told, effect_is_for, have_same_registers, may_be_told, texts_kept}
+use Rattle.judge_pass.specs.Told.{can_be_told, effect_is_for, have_same_registers, IsFirst, may_be_told, texts_kept}
 use Rattle.judge_pass.proofs.EffectsFor.{Covers, effects_more, effects_same, gives_effects, no_effects, oldest_is_first}
 
 -- ---- the call for which an effect was done is an older one, with the same caller
@@ -60,7 +61,7 @@ untold_for : (K : List Event) (c : ℕ) (texts : List (List (List ℕ))) (p : �
     → of_call hand (λ d. name_eq (caller (before K p) d) (caller K c)) ≡ true
 untold_for K c texts p e None s h = cc
 untold_for K c texts p e (Some d) s h =
-    let alike = (and_parts (are_alike K c d) _ (and_parts (not (d == c)) _ h).1).0 in
+    let alike = (and_parts (are_alike K c d) _ (and_parts (is_entered_anew K c d) _ h).1).0 in
     let same = name_eq-true (caller K c) (caller K d) (and_parts (name_eq (caller K c) (caller K d)) _ alike).0 in
     rw (caller_kept K p d e.who s, ← same) (name_eq-refl (caller K c))
 
@@ -158,45 +159,85 @@ some_event (e ∷ K) t low =
       | inr q ↦ (e, ap (event_at (e ∷ K)) q ∙ event_at-here e K)
     ]
 
-in_order : (t g n a s u x : Bool) → (t && (g && (true && (n && ((a && s) && (u && x)))))) ≡ ((t && (n && (u && (s && g)))) && (a && x))
-in_order false g n a s u x = refl
-in_order true false false a s u x = refl
-in_order true false true a s false x = refl
-in_order true false true a false true x = refl
-in_order true false true a true true x = refl
-in_order true true false a s u x = refl
-in_order true true true false s u x = by_rest u s
+in_order : (t g n m a s u x : Bool) → (n ≡ true → m ≡ true)
+    → (t && (g && (true && (n && ((a && s) && (u && x)))))) ≡ ((t && (m && (u && (s && g)))) && (a && (n && x)))
+in_order t g false m a s u x h = both (none t g) (by (t && (m && (u && (s && g)))) a)
   where
-    by_rest : (u s : Bool) → false ≡ ((u && (s && true)) && false)
-    by_rest false s = refl
-    by_rest true false = refl
-    by_rest true true = refl
-in_order true true true true false false x = refl
-in_order true true true true false true x = refl
-in_order true true true true true false x = refl
-in_order true true true true true true x = refl
+    none : (t g : Bool) → (t && (g && (true && false))) ≡ false
+    none true true = refl
+    none true false = refl
+    none false g = refl
+
+    by : (b a : Bool) → (b && (a && false)) ≡ false
+    by true true = refl
+    by true false = refl
+    by false a = refl
+
+    both : {b c : Bool} → b ≡ false → c ≡ false → b ≡ c
+    both p q = p ∙ sym q
+in_order t g true m a s u x h = rw (h refl) (others t g a s u x)
+  where
+    others : (t g a s u x : Bool) → (t && (g && (true && (true && ((a && s) && (u && x)))))) ≡ ((t && (true && (u && (s && g)))) && (a && (true && x)))
+    others false g a s u x = refl
+    others true false a s u x = rw (none u s) refl
+      where
+        none : (u s : Bool) → (true && (u && (s && false))) ≡ false
+        none true true = refl
+        none true false = refl
+        none false s = refl
+    others true true false s u x = rw (none (true && (u && (s && true)))) refl
+      where
+        none : (b : Bool) → (b && false) ≡ false
+        none true = refl
+        none false = refl
+    others true true true false u x = rw (none u) refl
+      where
+        none : (u : Bool) → (true && (u && (false && true))) ≡ false
+        none true = refl
+        none false = refl
+    others true true true true false x = refl
+    others true true true true true x = refl
+
+other-call : (K : List Event) (c d : ℕ) → is_entered_anew K c d ≡ true → not (d == c) ≡ true
+other-call K c d h =
+    let before : nat_lt d c ≡ true = (and_parts (nat_lt d c) _ h).0 in
+    let apart : (d == c) ≡ false = grind (arith, nat_tests) in
+    rw apart refl
 
 pub can_be : (K : List Event) (w c d m p : ℕ) → nth_of is_effect K m ≡ Some p → hand_at K p ≡ Some d
     → can_be_told K w c m ≡ (may_be_told K c d p && (name_eq (caller K c) (caller K d)
-    && share_texts (valid_texts K w c) (texts_done (before K p) (seat_at K p) d (what_at K p))))
+    && (is_entered_anew K c d && may_share_texts (valid_texts K w c) (texts_done (before K p) (seat_at K p) d (what_at K p)))))
 can_be K w c d m p place hand =
     let e = some_event K p (place-below is_effect K m p place).1 in
     let seat : seat_call (before K p) e.0.who ≡ Some d = rw e.1 at hand in
     let effect = place-kind is_effect K m p e.0 place e.1 in
     rw (place, e.1, effect, seat)
-    (in_order (not (is_told K p)) (is_some (number_in (outcome_of K p e.0.what))) (not (d == c)) (name_eq (caller K c) (caller K d)) (have_same_registers K c d) (not (settled K d))
-    (share_texts (valid_texts K w c) (texts_done (before K p) (seat_of e.0.who) d e.0.what)))
+    (in_order (not (is_told K p)) (is_some (number_in (outcome_of K p e.0.what))) (is_entered_anew K c d) (not (d == c)) (name_eq (caller K c) (caller K d)) (have_same_registers K c d)
+    (not (settled K d)) (may_share_texts (valid_texts K w c) (texts_done (before K p) (seat_of e.0.who) d e.0.what)) (other-call K c d))
 
 -- what may not be told can't be
 pub can_not_be : (K : List Event) (w c d m p : ℕ) → nth_of is_effect K m ≡ Some p → hand_at K p ≡ Some d → may_be_told K c d p ≡ false → can_be_told K w c m ≡ false
 can_not_be K w c d m p place hand h = can_be K w c d m p place hand ∙ rw h refl
 
--- of an effect for a call of the same task: it may, and was done for texts that are in both
-pub can_if : (K : List Event) (w c d m p : ℕ) → nth_of is_effect K m ≡ Some p → hand_at K p ≡ Some d → may_be_told K c d p ≡ true → effect_is_for K c m ≡ true
-    → can_be_told K w c m ≡ share_texts (valid_texts K w c) (texts_done (before K p) (seat_at K p) d (what_at K p))
-can_if K w c d m p place hand h for =
+-- nor what wasn't entered anew
+pub can_not_again : (K : List Event) (w c d m p : ℕ) → nth_of is_effect K m ≡ Some p → hand_at K p ≡ Some d → is_entered_anew K c d ≡ false → can_be_told K w c m ≡ false
+can_not_again K w c d m p place hand h = can_be K w c d m p place hand ∙ rw h (none (may_be_told K c d p) (name_eq (caller K c) (caller K d)))
+  where
+    none : (a b : Bool) → (a && (b && false)) ≡ false
+    none true true = refl
+    none true false = refl
+    none false b = refl
+
+-- of an effect for a call of the same task, which is entered anew: it may, and was done for texts that are in both
+pub can_if : (K : List Event) (w c d m p : ℕ) → nth_of is_effect K m ≡ Some p → hand_at K p ≡ Some d → may_be_told K c d p ≡ true → is_entered_anew K c d ≡ true → effect_is_for K c m ≡ true
+    → can_be_told K w c m ≡ may_share_texts (valid_texts K w c) (texts_done (before K p) (seat_at K p) d (what_at K p))
+can_if K w c d m p place hand h again for =
     let same : name_eq (caller K c) (caller K d) ≡ true = rw (place, hand) at for in
-    can_be K w c d m p place hand ∙ rw (h, same) refl
+    can_be K w c d m p place hand ∙ rw (h, same, again) refl
+
+-- a call that was entered at or after the first place, and before the later call, is entered anew
+pub again_if : (K : List Event) (c d first : ℕ) → IsFirst K c first → (nat_lt d c && nat_le first d) ≡ is_entered_anew K c d
+again_if K c d first h = rw (h d) refl
 
 -- one that may be told gave a number
 pub may_be_given : (K : List Event) (c d p : ℕ) → may_be_told K c d p ≡ true → is_some (gave_at K (Some p)) ≡ true

@@ -1,19 +1,18 @@
 -- What a worker's own steps make of what is kept of its seat.
 -- By the look-backs for the worker, each of which takes the step.
-use Rattle.std.proofs.Common.{◌≡◌, ℕ, ◌+◌, ◌<◌, ◌^◌, ◌-◌, Bool, true, false, List, [], ◌∷◌, ◌++◌, length, map, refl, sym, ap, ◌∙◌, arith, Option, Some, None}
+use Rattle.std.proofs.Common.{◌≡◌, ℕ, ◌+◌, ◌<◌, ◌^◌, Bool, true, false, List, [], ◌∷◌, ◌++◌, length, map, refl, sym, ap, ◌∙◌, arith, Option, Some, None}
 use Rattle.std.specs.Prelude.{get_or, reverse, Ok, Err, Result, ℤ}
 use Rattle.std.proofs.lemmas.Bool.{eq-eqb}
 use Rattle.std.proofs.lemmas.List.{length-append, length-map, map-append, reverse-append, take-append-le}
 use Rattle.std.proofs.Math.Seq.{take-length}
 use Rattle.std.proofs.lemmas.List.Elements.{All-append, All-cons, All-map}
-use Rattle.broker_verdict.specs.Seats.{checked_after, confirmed, effect_after, effect_of, has_sent, is_base_refused, is_checked, is_effect, is_own_id, opens_directory, reads, reads_after, refused_after, SeatRead, sent_after, validated, Worth}
+use Rattle.broker_verdict.specs.Seats.{base_now, base_worth, base_worth_after, checked_after, confirmed, directory_opened, effect_after, effect_of, has_sent, is_base_refused, is_checked, is_effect, is_own_id, reads, reads_after, refused_after, SeatRead, sent_after, validated, Worth}
+use Rattle.broker_judge.specs.Reads.{worth_of}
 use Rattle.broker_verdict.specs.Seats.{Foreign, Fresh, Stale, Valid, worth_now}
 use Rattle.hist_model.specs.Calls.{named}
-use Rattle.hist_model.specs.Files.{files}
 use Rattle.hist_model.specs.Kinds.{notifies}
 use Rattle.hist_model.specs.Look.{ev}
-use Rattle.hist_model.specs.Natives.{base_of}
-use Rattle.hist_model.specs.Steps.{call_after, mem, mem_after, opened, place_or, session_call}
+use Rattle.hist_model.specs.Steps.{call_after, mem, mem_after, opened, session_call}
 use Rattle.hist_model.specs.Tasks.{holder}
 use Rattle.hist_model.specs.Trees.{ordinal_of}
 use Rattle.hist_model.specs.declared.event.Actor.TheVariants.{Worker}
@@ -22,15 +21,15 @@ use Rattle.hist_model.specs.declared.event.Event.{Event}
 use Rattle.hist_model.specs.declared.event.What.{What}
 use Rattle.hist_model.specs.declared.event.What.TheVariants.{Check, LetGo, OpenBase, OpenMem, Read, Recv, Send}
 use Rattle.hist_model.specs.declared.script.Script.{Script}
-use Rattle.history_frames.specs.Ordinals.{count_of, group_of, groups_made, makes_group}
-use Rattle.history_frames.proofs.Ordinals.{place-below, place-new, place-same}
+use Rattle.history_frames.specs.Ordinals.{count_of, groups_made, makes_group}
+use Rattle.history_frames.proofs.Ordinals.{place-below, place-new}
 use Rattle.sys_abi.specs.declared.wire.Notif.{Notif}
 use Rattle.judge_pass.specs.Stands.{IsBelow, IsSeat, place_of_call, place_of_effect, place_of_group}
-use Rattle.judge_pass.specs.Tables.{AreMade, Begins, dirfd_named, KeepsHandles}
+use Rattle.judge_pass.specs.Tables.{Begins, KeepsHandles}
 use Rattle.judge_pass.specs.declared.seats.Seat.{Seat}
-use Rattle.judge_pass.proofs.OpenFiles.{base-dropped, base-opened, moves_base, named-opened}
+use Rattle.judge_pass.proofs.OpenFiles.{base-dropped, base-opened, moves_base}
 use Rattle.judge_pass.proofs.Rows.{below-more, count-least}
-use Rattle.judge_pass.proofs.SeatRows.{effect-kept, group-kept, LeavesSeat, longer, made-more, named-kept, own-base, own-call, own-checked, own-effect, own-memory, own-named, own-reads, own-refused, own-sent}
+use Rattle.judge_pass.proofs.SeatRows.{effect-kept, group-kept, LeavesSeat, longer, own-base, own-call, own-checked, own-effect, own-memory, own-reads, own-refused, own-sent, own-worth}
 use Rattle.judge_pass.proofs.TaskRows.{call-kept}
 
 confirmed-again : (r : SeatRead) → confirmed (confirmed r) ≡ confirmed r
@@ -81,8 +80,8 @@ module _ (S : Script) (K : List Event) (w : ℕ) (what : What) (h : moves_seat w
   quiet-memory : (o : Option ℕ) → mem_after K what o ≡ o
   quiet-memory o = grind arith
 
-  quiet-opens : opens_directory what ≡ false
-  quiet-opens = grind arith
+  quiet-worth : (v : Worth) → base_worth_after S K w what v ≡ v
+  quiet-worth v = grind arith
 
   quiet-base : moves_base what ≡ false
   quiet-base = grind arith
@@ -97,7 +96,7 @@ module _ (S : Script) (K : List Event) (w : ℕ) (what : What) (h : moves_seat w
     refused_same = own-refused S K w what ∙ quiet-refused (is_base_refused S K w);
     memory_same = own-memory S K w what ∙ quiet-memory (mem K w);
     base_same = own-base S K w what quiet-base;
-    named_same = own-named S K w what quiet-opens;
+    worth_same = own-worth S K w what ∙ quiet-worth (base_worth S K w);
   }
 
 -- ---- the others
@@ -110,7 +109,6 @@ module _ (S : Script) (K : List Event) (w : ℕ) (old : Seat) (h : IsSeat S K w 
 
     pub seat-received : (new : Seat) (call : Option ℕ) → Begins (length K) call new → KeepsHandles old new → named K notif.id ≡ place_of_call K call → IsBelow (count_of notifies K) call → IsSeat S (received ∷ K) w new
     seat-received new call b k named_is made =
-        let same = own-named S K w (Recv (Ok notif)) refl in
         record {
           call_is = own-call S K w (Recv (Ok notif)) ∙ (named_is ∙ (sym (call-kept received K call made) ∙ ap (place_of_call (received ∷ K)) (sym b.call_is)));
           call_made = rw b.call_is (below-more _ _ call (count-least notifies received K) made);
@@ -128,8 +126,7 @@ module _ (S : Script) (K : List Event) (w : ℕ) (old : Seat) (h : IsSeat S K w 
           memory_is = rw k.memory_same (own-memory S K w (Recv (Ok notif)) ∙ (h.memory_is ∙ sym (group-kept received K old.memory h.memory_made)));
           memory_made = rw k.memory_same (below-more _ _ old.memory (count-least makes_group received K) h.memory_made);
           base_is = rw k.base_same (own-base S K w (Recv (Ok notif)) refl ∙ h.base_is);
-          named_are = λ g p d y z. rw k.named_same (named-kept S received K w old h (omega (arith, fits)) same g p d y (rw k.base_same at z));
-          named_made = rw k.named_same (made-more received K old.named.rows.items h.named_made);
+          base_worth_is = own-worth S K w (Recv (Ok notif)) ∙ rw b.base_worthless refl;
         }
 
   -- it lets go
@@ -137,8 +134,8 @@ module _ (S : Script) (K : List Event) (w : ℕ) (old : Seat) (h : IsSeat S K w 
     abbrev let-go : Event
     let-go = ev (Worker w) LetGo
 
-    pub seat-let-go : (new : Seat) → Begins (length K) None new → new.memory ≡ None → new.base ≡ None → new.named ≡ old.named → IsSeat S (let-go ∷ K) w new
-    seat-let-go new b no_memory no_base named_same = record {
+    pub seat-let-go : (new : Seat) → Begins (length K) None new → new.memory ≡ None → new.base ≡ None → IsSeat S (let-go ∷ K) w new
+    seat-let-go new b no_memory no_base = record {
       call_is = own-call S K w LetGo ∙ rw b.call_is refl;
       call_made = rw b.call_is tt;
       received = λ z. let k = rw b.call_is at z in cc;
@@ -155,8 +152,7 @@ module _ (S : Script) (K : List Event) (w : ℕ) (old : Seat) (h : IsSeat S K w 
       memory_is = own-memory S K w LetGo ∙ rw no_memory refl;
       memory_made = rw no_memory tt;
       base_is = base-dropped S let-go K w (eq-eqb w w refl) refl ∙ rw no_base refl;
-      named_are = λ g p d y z. let k = rw no_base at z in cc;
-      named_made = rw named_same (made-more let-go K old.named.rows.items h.named_made);
+      base_worth_is = own-worth S K w LetGo ∙ rw b.base_worthless refl;
     }
 
   -- it opens a memory
@@ -164,7 +160,7 @@ module _ (S : Script) (K : List Event) (w : ℕ) (old : Seat) (h : IsSeat S K w 
     abbrev memory-opened : Event
     memory-opened = ev (Worker w) (OpenMem pid (Ok tt))
 
-    pub seat-memory : (m : Option ℕ) → opened K (holder K pid) ≡ place_of_group K m → IsBelow (groups_made K) m → IsSeat S (memory-opened ∷ K) w (record old { memory = m })
+    pub seat-memory : (m : Option ℕ) → opened K (holder K pid) ≡ place_of_group K m → IsBelow (groups_made K) m → IsSeat S (memory-opened ∷ K) w (record old { memory = m; is_checked = false })
     seat-memory m is made =
         let what = OpenMem pid (Ok tt) in
         let e = memory-opened in
@@ -177,7 +173,7 @@ module _ (S : Script) (K : List Event) (w : ℕ) (old : Seat) (h : IsSeat S K w 
           followed_some = h.followed_some;
           read_at_are = h.read_at_are;
           read_before = longer K e old.read_at.items h.read_before;
-          checked_is = own-checked S K w what ∙ h.checked_is;
+          checked_is = own-checked S K w what;
           effect_is = own-effect S K w what ∙ (h.effect_is ∙ sym (effect-kept e K old.effect h.effect_made));
           effect_made = below-more _ _ old.effect (count-least is_effect e K) h.effect_made;
           sent_is = own-sent S K w what ∙ h.sent_is;
@@ -185,8 +181,7 @@ module _ (S : Script) (K : List Event) (w : ℕ) (old : Seat) (h : IsSeat S K w 
           memory_is = own-memory S K w what ∙ (is ∙ sym (group-kept e K m made));
           memory_made = below-more _ _ m (count-least makes_group e K) made;
           base_is = own-base S K w what refl ∙ h.base_is;
-          named_are = named-kept S e K w old h (omega (arith, fits)) (own-named S K w what refl);
-          named_made = made-more e K old.named.rows.items h.named_made;
+          base_worth_is = own-worth S K w what ∙ h.base_worth_is;
         }
 
   -- it opens a directory
@@ -194,9 +189,9 @@ module _ (S : Script) (K : List Event) (w : ℕ) (old : Seat) (h : IsSeat S K w 
     abbrev base-open : Event
     base-open = ev (Worker w) (OpenBase pid dirfd (Ok tt))
 
-    pub seat-base : (new : Seat) → new ≡ record old { base = new.base; named = new.named } → base_of S (files S K) (place_or (opened K (holder K pid))) dirfd ≡ ordinal_of new.base
-        → ((g p : ℕ) (d : ℤ) → group_of K g ≡ Some p → base_of S (files S K) p d ≡ dirfd_named S new.named.rows.items g d) → AreMade (groups_made K) new.named.rows.items → IsSeat S (base-open ∷ K) w new
-    seat-base new rest base named made =
+    pub seat-base : (new : Seat) → new ≡ record old { base = new.base; base_worth = new.base_worth } → directory_opened S K pid dirfd ≡ ordinal_of new.base
+        → base_now S K (session_call K w) (directory_opened S K pid dirfd) ≡ worth_of new.base_worth → IsSeat S (base-open ∷ K) w new
+    seat-base new rest base worth =
         let what = OpenBase pid dirfd (Ok tt) in
         let e = base-open in
         rw rest (record {
@@ -216,8 +211,7 @@ module _ (S : Script) (K : List Event) (w : ℕ) (old : Seat) (h : IsSeat S K w 
           memory_is = own-memory S K w what ∙ (h.memory_is ∙ sym (group-kept e K old.memory h.memory_made));
           memory_made = below-more _ _ old.memory (count-least makes_group e K) h.memory_made;
           base_is = base-opened S e K w pid dirfd tt refl refl ∙ base;
-          named_are = λ g p d y z. named-opened S e K w p d refl refl ∙ named g p d (sym (place-same makes_group e K g refl) ∙ y);
-          named_made = made-more e K new.named.rows.items made;
+          base_worth_is = own-worth S K w what ∙ worth;
         })
 
   -- it is answered that it can't
@@ -246,8 +240,7 @@ module _ (S : Script) (K : List Event) (w : ℕ) (old : Seat) (h : IsSeat S K w 
           memory_is = own-memory S K w what ∙ (h.memory_is ∙ sym (group-kept e K old.memory h.memory_made));
           memory_made = below-more _ _ old.memory (count-least makes_group e K) h.memory_made;
           base_is = own-base S K w what refl ∙ h.base_is;
-          named_are = named-kept S e K w old h (omega (arith, fits)) (own-named S K w what refl);
-          named_made = made-more e K old.named.rows.items h.named_made;
+          base_worth_is = own-worth S K w what ∙ h.base_worth_is;
         }
 
   -- it sends an answer
@@ -276,8 +269,7 @@ module _ (S : Script) (K : List Event) (w : ℕ) (old : Seat) (h : IsSeat S K w 
           memory_is = own-memory S K w what ∙ (h.memory_is ∙ sym (group-kept e K old.memory h.memory_made));
           memory_made = below-more _ _ old.memory (count-least makes_group e K) h.memory_made;
           base_is = own-base S K w what refl ∙ h.base_is;
-          named_are = named-kept S e K w old h (omega (arith, fits)) (own-named S K w what refl);
-          named_made = made-more e K old.named.rows.items h.named_made;
+          base_worth_is = own-worth S K w what ∙ h.base_worth_is;
         }
 
   -- it does an effect
@@ -306,8 +298,8 @@ module _ (S : Script) (K : List Event) (w : ℕ) (old : Seat) (h : IsSeat S K w 
     effect-memory : (o : Option ℕ) → mem_after K what o ≡ o
     effect-memory o = grind arith
 
-    effect-opens : opens_directory what ≡ false
-    effect-opens = grind arith
+    effect-worth : (v : Worth) → base_worth_after S K w what v ≡ v
+    effect-worth v = grind arith
 
     effect-base : moves_base what ≡ false
     effect-base = grind arith
@@ -333,8 +325,7 @@ module _ (S : Script) (K : List Event) (w : ℕ) (old : Seat) (h : IsSeat S K w 
           memory_is = own-memory S K w what ∙ (effect-memory (mem K w) ∙ (h.memory_is ∙ sym (group-kept e K old.memory h.memory_made)));
           memory_made = below-more _ _ old.memory (count-least makes_group e K) h.memory_made;
           base_is = own-base S K w what effect-base ∙ h.base_is;
-          named_are = named-kept S e K w old h (omega (arith, fits)) (own-named S K w what effect-opens);
-          named_made = made-more e K old.named.rows.items h.named_made;
+          base_worth_is = own-worth S K w what ∙ (effect-worth (base_worth S K w) ∙ h.base_worth_is);
         }
 
   -- it finds the notification of its call valid
@@ -342,9 +333,9 @@ module _ (S : Script) (K : List Event) (w : ℕ) (old : Seat) (h : IsSeat S K w 
     abbrev valid : Event
     valid = ev (Worker w) (Check x (Ok tt))
 
-    pub seat-checked : is_own_id K w x ≡ true → (new : Seat) → new ≡ record old { reads = new.reads; followed = new.followed; is_checked = new.is_checked } → new.reads.items ≡ map (λ r. confirmed r) old.reads.items
-        → new.followed ≡ length new.reads.items → new.is_checked ≡ true → IsSeat S (valid ∷ K) w new
-    seat-checked mine new rest items followed_all checked =
+    pub seat-checked : is_own_id K w x ≡ true → (new : Seat) → new ≡ record old { reads = new.reads; followed = new.followed; is_checked = new.is_checked; base_worth = new.base_worth } → new.reads.items ≡ map (λ r. confirmed r) old.reads.items
+        → new.followed ≡ length new.reads.items → new.is_checked ≡ true → worth_of new.base_worth ≡ validated (worth_of old.base_worth) → IsSeat S (valid ∷ K) w new
+    seat-checked mine new rest items followed_all checked worth =
         let what = Check x (Ok tt) in
         let e = valid in
         let long : length new.reads.items ≡ length old.reads.items = ap length items ∙ length-map old.reads.items (λ (r : SeatRead). confirmed r) in
@@ -365,8 +356,7 @@ module _ (S : Script) (K : List Event) (w : ℕ) (old : Seat) (h : IsSeat S K w 
           memory_is = own-memory S K w what ∙ (h.memory_is ∙ (sym (group-kept e K old.memory h.memory_made) ∙ ap (λ (s : Seat). place_of_group (e ∷ K) s.memory) (sym rest)));
           memory_made = rw (ap (λ (s : Seat). s.memory) rest) (below-more _ _ old.memory (count-least makes_group e K) h.memory_made);
           base_is = own-base S K w what refl ∙ (h.base_is ∙ ap (λ (s : Seat). ordinal_of s.base) (sym rest));
-          named_are = λ g p d y z. rw (ap (λ (s : Seat). s.named) rest) (named-kept S e K w old h (omega (arith, fits)) (own-named S K w what refl) g p d y (rw (ap (λ (s : Seat). s.base) rest) at z));
-          named_made = rw (ap (λ (s : Seat). s.named) rest) (made-more e K old.named.rows.items h.named_made);
+          base_worth_is = own-worth S K w what ∙ (rw mine (ap validated h.base_worth_is) ∙ sym worth);
         }
 
     pub seat-unchecked : is_own_id K w x ≡ false → LeavesSeat S valid K w
@@ -381,7 +371,7 @@ module _ (S : Script) (K : List Event) (w : ℕ) (old : Seat) (h : IsSeat S K w 
           refused_same = own-refused S K w what;
           memory_same = own-memory S K w what;
           base_same = own-base S K w what refl;
-          named_same = own-named S K w what refl;
+          worth_same = own-worth S K w what ∙ rw other refl;
         }
 
   -- it reads
@@ -401,7 +391,7 @@ module _ (S : Script) (K : List Event) (w : ℕ) (old : Seat) (h : IsSeat S K w 
           refused_same = own-refused S K w what;
           memory_same = own-memory S K w what;
           base_same = own-base S K w what refl;
-          named_same = own-named S K w what refl;
+          worth_same = own-worth S K w what;
         }
 
     pub seat-read : (m g : ℕ) → mem K w ≡ Some m → (new : Seat) → new ≡ record old { reads = new.reads; read_at = new.read_at } → (worth : Worth) → worth ≡ worth_now K (session_call K w) m
@@ -428,6 +418,5 @@ module _ (S : Script) (K : List Event) (w : ℕ) (old : Seat) (h : IsSeat S K w 
           memory_is = own-memory S K w what ∙ (h.memory_is ∙ (sym (group-kept e K old.memory h.memory_made) ∙ ap (λ (s : Seat). place_of_group (e ∷ K) s.memory) (sym rest)));
           memory_made = rw (ap (λ (s : Seat). s.memory) rest) (below-more _ _ old.memory (count-least makes_group e K) h.memory_made);
           base_is = own-base S K w what refl ∙ (h.base_is ∙ ap (λ (s : Seat). ordinal_of s.base) (sym rest));
-          named_are = λ i p d y z. rw (ap (λ (s : Seat). s.named) rest) (named-kept S e K w old h (omega (arith, fits)) (own-named S K w what refl) i p d y (rw (ap (λ (s : Seat). s.base) rest) at z));
-          named_made = rw (ap (λ (s : Seat). s.named) rest) (made-more e K old.named.rows.items h.named_made);
+          base_worth_is = own-worth S K w what ∙ (h.base_worth_is ∙ ap (λ (s : Seat). worth_of s.base_worth) (sym rest));
         }

@@ -1,27 +1,23 @@
 -- What is kept of a seat, when one more event comes.
 -- By the look-backs for the seat's worker, each of which takes one step.
-use Rattle.std.proofs.Common.{◌≡◌, ℕ, ◌<◌, ◌^◌, ◌-◌, true, false, List, ◌∷◌, length, refl, sym, ◌∙◌, arith, inl, inr, Option, Some, None}
-use Rattle.std.specs.Prelude.{is_some, IsSome, All, ℤ, pos, negsuc}
+use Rattle.std.proofs.Common.{◌≡◌, ℕ, ◌<◌, ◌^◌, false, List, ◌∷◌, length, refl, sym, ◌∙◌, arith, Option, Some, None}
+use Rattle.std.specs.Prelude.{All}
 use Rattle.std.proofs.lemmas.Bool.{eq-eqb}
-use Rattle.broker_verdict.specs.Seats.{checked_after, effect_after, effect_of, has_sent, is_base_refused, is_checked, is_effect, named_then, opens_directory, reads, reads_after, refused_after, sent_after}
+use Rattle.broker_verdict.specs.Seats.{base_worth, base_worth_after, checked_after, effect_after, effect_of, has_sent, is_base_refused, is_checked, is_effect, reads, reads_after, refused_after, sent_after}
 use Rattle.hist_model.specs.Files.{files}
 use Rattle.hist_model.specs.Kinds.{notifies}
 use Rattle.hist_model.specs.Look.{ev, is_worker}
 use Rattle.hist_model.specs.Steps.{call_after, mem, mem_after, session_call}
-use Rattle.hist_model.specs.Trees.{ordinal_of}
 use Rattle.hist_model.specs.declared.event.Actor.TheVariants.{Worker}
 use Rattle.hist_model.specs.declared.event.Event.{Event}
 use Rattle.hist_model.specs.declared.event.What.{What}
-use Rattle.hist_model.specs.declared.request.NodeRef.{NodeRef}
 use Rattle.hist_model.specs.declared.script.Script.{Script}
-use Rattle.history_frames.specs.Ordinals.{count_of, group_of, groups_made, makes_group}
-use Rattle.history_frames.proofs.Ordinals.{place-cases}
+use Rattle.history_frames.specs.Ordinals.{count_of, groups_made, makes_group}
 use Rattle.judge_pass.specs.Stands.{IsBelow, IsSeat, place_of_effect, place_of_group}
-use Rattle.judge_pass.specs.Tables.{AreMade, dirfd_named}
+use Rattle.judge_pass.specs.Tables.{AreMade}
 use Rattle.judge_pass.specs.declared.directories.OpenDirectory.{OpenDirectory}
 use Rattle.judge_pass.specs.declared.seats.Seat.{Seat}
-use Rattle.judge_pass.proofs.Copied.{unmade}
-use Rattle.judge_pass.proofs.OpenFiles.{base-same, moves_base, named-root, named-unmade}
+use Rattle.judge_pass.proofs.OpenFiles.{base-same, moves_base}
 use Rattle.judge_pass.proofs.Rows.{below-more, count-least}
 use Rattle.judge_pass.proofs.Rows as rows
 use Rattle.judge_pass.proofs.TaskRows.{call-kept}
@@ -39,27 +35,6 @@ group-kept e K None h = refl
 pub made-more : (e : Event) (K : List Event) (rs : List OpenDirectory) → AreMade (groups_made K) rs → AreMade (groups_made (e ∷ K)) rs
 made-more e K rs h k d l = let a = h k d l in let b = count-least makes_group e K in omega (arith, a, b)
 
--- ---- what descriptors led to
-
-some-base : (S : Script) (K : List Event) (w : ℕ) (seat : Seat) → IsSeat S K w seat → IsSome seat.base → IsSome ((files S K).base w)
-some-base S K w seat h b = rw h.base_is (by seat.base b)
-  where
-    by : (o : Option NodeRef) → is_some o ≡ true → is_some (ordinal_of o) ≡ true
-    by (Some n) z = refl
-    by None z = cc
-
--- where the base stays, they led to what they did before; a group that is made now had nothing
-pub named-kept : (S : Script) (e : Event) (K : List Event) (w : ℕ) (seat : Seat) → IsSeat S K w seat → length (e ∷ K) < 2 ^ 64 → ((p : ℕ) (d : ℤ) → named_then S (e ∷ K) w p d ≡ named_then S K w p d)
-    → (g p : ℕ) (d : ℤ) → group_of (e ∷ K) g ≡ Some p → IsSome seat.base → named_then S (e ∷ K) w p d ≡ dirfd_named S seat.named.rows.items g d
-named-kept S e K w seat h fits same g p d made b = same p d ∙ elim (place-cases makes_group e K g p made) [
-  | inr old ↦ h.named_are g p d old b
-  | inl new ↦ by d new.1 new.2
-]
-  where
-    by : (d : ℤ) → groups_made K ≡ g → length K ≡ p → named_then S K w p d ≡ dirfd_named S seat.named.rows.items g d
-    by (pos n) x y = named-unmade S K w p n (omega (arith, y)) (omega (arith, y, fits)) ∙ sym (unmade (groups_made K) seat.named.rows.items g n h.named_made (omega (arith, x)))
-    by (negsuc n) x y = named-root S K w p n (some-base S K w seat h b)
-
 -- ---- a step that leaves the seat
 
 pub record LeavesSeat (S : Script) (e : Event) (K : List Event) (w : ℕ) : Type 0 where
@@ -71,7 +46,7 @@ pub record LeavesSeat (S : Script) (e : Event) (K : List Event) (w : ℕ) : Type
   pub refused_same : is_base_refused S (e ∷ K) w ≡ is_base_refused S K w
   pub memory_same : mem (e ∷ K) w ≡ mem K w
   pub base_same : (files S (e ∷ K)).base w ≡ (files S K).base w
-  pub named_same : (p : ℕ) (d : ℤ) → named_then S (e ∷ K) w p d ≡ named_then S K w p d
+  pub worth_same : base_worth S (e ∷ K) w ≡ base_worth S K w
 
 pub longer : (K : List Event) (e : Event) (xs : List (ℕ × ℕ)) → All (λ (r : ℕ × ℕ). r.0 < length K) xs → All (λ (r : ℕ × ℕ). r.0 < length (e ∷ K)) xs
 longer K e xs h k d l = let a = h k d l in omega (arith, a)
@@ -94,13 +69,12 @@ seat-row-kept S e K w seat fits h l = record {
   memory_is = l.memory_same ∙ (h.memory_is ∙ sym (group-kept e K seat.memory h.memory_made));
   memory_made = below-more _ _ seat.memory (count-least makes_group e K) h.memory_made;
   base_is = l.base_same ∙ h.base_is;
-  named_are = named-kept S e K w seat h fits l.named_same;
-  named_made = made-more e K seat.named.rows.items h.named_made;
+  base_worth_is = l.worth_same ∙ h.base_worth_is;
 }
 
 -- a step of another actor
 pub other-seat : (S : Script) (e : Event) (K : List Event) (w : ℕ) → is_worker e.who w ≡ false → LeavesSeat S e K w
-unfolding session_call reads is_checked effect_of has_sent is_base_refused mem named_then
+unfolding session_call reads is_checked effect_of has_sent is_base_refused mem base_worth
 other-seat S e K w f = record {
   call_same = rw f refl;
   reads_same = rw f refl;
@@ -110,7 +84,7 @@ other-seat S e K w f = record {
   refused_same = rw f refl;
   memory_same = rw f refl;
   base_same = base-same S e K w (rw f refl);
-  named_same = λ p d. rw f refl;
+  worth_same = rw f refl;
 }
 
 -- ---- the seat's own steps
@@ -147,9 +121,9 @@ module _ (S : Script) (K : List Event) (w : ℕ) (what : What) where
   unfolding mem
   own-memory = rw (eq-eqb w w refl) refl
 
-  pub own-named : opens_directory what ≡ false → (p : ℕ) (d : ℤ) → named_then S (own ∷ K) w p d ≡ named_then S K w p d
-  unfolding named_then
-  own-named f p d = rw (f, eq-eqb w w refl) refl
+  pub own-worth : base_worth S (own ∷ K) w ≡ base_worth_after S K w what (base_worth S K w)
+  unfolding base_worth
+  own-worth = rw (eq-eqb w w refl) refl
 
   pub own-base : moves_base what ≡ false → (files S (own ∷ K)).base w ≡ (files S K).base w
   own-base f = base-same S own K w (rw (f, eq-eqb w w refl) refl)

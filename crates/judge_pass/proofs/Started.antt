@@ -4,7 +4,7 @@ use Rattle.std.proofs.Common.{◌≡◌, ℕ, ◌+◌, ◌<◌, ◌^◌, [], len
 use Rattle.std.specs.Prelude.{get_or, replicate}
 use Rattle.std.proofs.lemmas.List.{get_or-replicate, length-replicate}
 use Rattle.broker_verdict.specs.Effects.{done_by}
-use Rattle.broker_verdict.specs.Seats.{effect_of, has_sent, is_base_refused, is_checked, named_then, reads}
+use Rattle.broker_verdict.specs.Seats.{base_worth, effect_of, has_sent, is_base_refused, is_checked, reads}
 use Rattle.hist_model.specs.Files.{files}
 use Rattle.hist_model.specs.ScriptRules.{IsScript}
 use Rattle.hist_model.specs.Steps.{mem, session_call}
@@ -17,7 +17,7 @@ use Rattle.judge_pass.specs.declared.judge.Judge.{Judge}
 use Rattle.judge_pass.specs.declared.seats.Seat.{Seat}
 
 idle-seat : (S : Script) (w : ℕ) (s : Seat) → IsIdle s → IsSeat S [] w s
-unfolding session_call reads is_checked effect_of has_sent is_base_refused mem files named_then
+unfolding session_call reads is_checked effect_of has_sent is_base_refused mem files base_worth
 idle-seat S w s i = record {
   call_is = rw i.begun.call_is refl;
   call_made = rw i.begun.call_is tt;
@@ -35,8 +35,7 @@ idle-seat S w s i = record {
   memory_is = rw i.no_memory refl;
   memory_made = rw i.no_memory tt;
   base_is = rw i.no_base refl;
-  named_are = λ g p d h b. let k = rw i.no_base at b in cc;
-  named_made = rw i.none_named (λ k d l. absurd (omega arith));
+  base_worth_is = rw i.begun.base_worthless refl;
 }
 
 pub stands-none : (P : Policy) (S : Script) (j : Judge) → IsScript S → S.firstid < 2 ^ 64 → j.tasks.items ≡ [] → j.groups ≡ 0 → j.calls.rows.items ≡ [] → j.calls.first ≡ S.firstid → j.directories.rows.items ≡ [] → j.done.items ≡ []

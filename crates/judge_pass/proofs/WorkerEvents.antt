@@ -9,7 +9,8 @@ use Rattle.std.proofs.lemmas.Option.{get_or_from_slice_get, slice_get_within}
 use Rattle.tasks.proofs.Listed.{get-within}
 use Rattle.broker_verdict.specs.Answers.{is_accepted_value}
 use Rattle.broker_verdict.specs.Effects.{is_done}
-use Rattle.broker_verdict.specs.Seats.{confirmed, has_no_base, is_effect, is_own_id, of_call, refused_after, Worth, worth_now}
+use Rattle.broker_verdict.specs.Seats.{base_now, confirmed, directory_opened, has_no_base, is_effect, is_own_id, of_call, refused_after, validated, Worth, worth_now}
+use Rattle.broker_judge.specs.Reads.{worth_of}
 use Rattle.hist_model.specs.Calls.{named}
 use Rattle.hist_model.specs.Kinds.{closes, is_install, makes, notifies, starts}
 use Rattle.hist_model.specs.Look.{ev, is_worker}
@@ -44,7 +45,7 @@ use Rattle.judge_pass.proofs.OpenRows.{moves_files, open-quiet}
 use Rattle.judge_pass.proofs.Parts.{AreSeats, calls-of, counted-same, done-of, named-row, open-of, seats-moved, seats-of, stands-of, tasks-of, tasks-same, times-same}
 use Rattle.judge_pass.proofs.Rows.{place-there}
 use Rattle.judge_pass.proofs.SeatEvents.{seat-base, seat-checked, seat-let-go, seat-memory, seat-read, seat-received, seat-refused, seat-unchecked, seat-unread}
-use Rattle.judge_pass.proofs.SeatRows.{LeavesSeat, other-seat, own-base, own-call, own-checked, own-effect, own-memory, own-named, own-reads, own-refused, own-sent, seat-row-kept}
+use Rattle.judge_pass.proofs.SeatRows.{LeavesSeat, other-seat, own-base, own-call, own-checked, own-effect, own-memory, own-reads, own-refused, own-sent, own-worth, seat-row-kept}
 use Rattle.judge_pass.proofs.TaskEvents.{IsQuiet}
 use Rattle.judge_pass.proofs.TaskRows.{other-task, quiet-task}
 
@@ -135,27 +136,27 @@ module _ (P : Policy) (S : Script) (K : List Event) (w : ℕ) (j : Judge) (s : S
 
   -- ---- it lets go
 
-  pub let-go : IsHistory S (ev (Worker w) LetGo ∷ K) → (new : Seat) → Begins (length K) None new → new.memory ≡ None → new.base ≡ None → new.named ≡ old.named → Stands P S (ev (Worker w) LetGo ∷ K) (record j { seats = with_item j.seats w new })
-  let-go history new begun memory base named =
+  pub let-go : IsHistory S (ev (Worker w) LetGo ∷ K) → (new : Seat) → Begins (length K) None new → new.memory ≡ None → new.base ≡ None → Stands P S (ev (Worker w) LetGo ∷ K) (record j { seats = with_item j.seats w new })
+  let-go history new begun memory base =
       stands-seat P S K w LetGo j s history (quiet-kind LetGo refl refl refl refl refl refl refl refl refl refl refl) refl refl new
-      (seat-let-go S K w old mine (omega (arith, history.fits)) new begun memory base named)
+      (seat-let-go S K w old mine (omega (arith, history.fits)) new begun memory base)
 
   -- ---- it opens
 
   pub memory-opened : (pid : ℕ) → IsHistory S (ev (Worker w) (OpenMem pid (Ok tt)) ∷ K) → (m : Option ℕ) → opened K (holder K pid) ≡ place_of_group K m → IsBelow (groups_made K) m
-      → Stands P S (ev (Worker w) (OpenMem pid (Ok tt)) ∷ K) (record j { seats = with_item j.seats w (record old { memory = m }) })
+      → Stands P S (ev (Worker w) (OpenMem pid (Ok tt)) ∷ K) (record j { seats = with_item j.seats w (record old { memory = m; is_checked = false }) })
   memory-opened pid history m is made =
-      stands-seat P S K w (OpenMem pid (Ok tt)) j s history (quiet-kind (OpenMem pid (Ok tt)) refl refl refl refl refl refl refl refl refl refl refl) refl refl (record old { memory = m })
+      stands-seat P S K w (OpenMem pid (Ok tt)) j s history (quiet-kind (OpenMem pid (Ok tt)) refl refl refl refl refl refl refl refl refl refl refl) refl refl (record old { memory = m; is_checked = false })
       (seat-memory S K w old mine pid (omega (arith, history.fits)) m is made)
 
-  pub base-opened : (pid : ℕ) (dirfd : ℤ) → IsHistory S (ev (Worker w) (OpenBase pid dirfd (Ok tt)) ∷ K) → (new : Seat) → new ≡ record old { base = new.base; named = new.named } → (g : ℕ) → opened K (holder K pid) ≡ place_of_group K (Some g) → g < groups_made K
-      → ordinal_of new.base ≡ dirfd_named S j.directories.rows.items g dirfd → new.named.rows.items ≡ j.directories.rows.items → Stands P S (ev (Worker w) (OpenBase pid dirfd (Ok tt)) ∷ K) (record j { seats = with_item j.seats w new })
-  base-opened pid dirfd history new rest g is made base named =
+  pub base-opened : (pid : ℕ) (dirfd : ℤ) → IsHistory S (ev (Worker w) (OpenBase pid dirfd (Ok tt)) ∷ K) → (new : Seat) → new ≡ record old { base = new.base; base_worth = new.base_worth } → (g : ℕ) → opened K (holder K pid) ≡ place_of_group K (Some g) → g < groups_made K
+      → ordinal_of new.base ≡ dirfd_named S j.directories.rows.items g dirfd → base_now S K (session_call K w) (ordinal_of new.base) ≡ worth_of new.base_worth → Stands P S (ev (Worker w) (OpenBase pid dirfd (Ok tt)) ∷ K) (record j { seats = with_item j.seats w new })
+  base-opened pid dirfd history new rest g is made base worth =
       let p = place-there makes_group K g made in
+      let there : directory_opened S K pid dirfd ≡ ordinal_of new.base = rw (is ∙ p.1) (s.directories g p.0 dirfd p.1 ∙ sym base) in
       stands-seat P S K w (OpenBase pid dirfd (Ok tt)) j s history (quiet-kind (OpenBase pid dirfd (Ok tt)) refl refl refl refl refl refl refl refl refl refl refl) refl refl new
       (seat-base S K w old mine pid dirfd (omega (arith, history.fits)) new rest
-      (rw (is ∙ p.1) (s.directories g p.0 dirfd p.1 ∙ sym base))
-      (λ i q d y. rw named (s.directories i q d y)) (rw (named, ← s.groups_are) (rw (← s.groups_are) at s.directories_made)))
+      there (rw there worth))
 
   pub base-refused : (pid : ℕ) (dirfd : ℤ) (errno : ℕ) → IsHistory S (ev (Worker w) (OpenBase pid dirfd (Err errno)) ∷ K) → (b : Bool) → refused_after S K w (OpenBase pid dirfd (Err errno)) old.is_base_refused ≡ b
       → Stands P S (ev (Worker w) (OpenBase pid dirfd (Err errno)) ∷ K) (record j { seats = with_item j.seats w (record old { is_base_refused = b }) })
@@ -165,11 +166,11 @@ module _ (P : Policy) (S : Script) (K : List Event) (w : ℕ) (j : Judge) (s : S
 
   -- ---- it checks
 
-  pub found-valid : (x : ℕ) → IsHistory S (ev (Worker w) (Check x (Ok tt)) ∷ K) → is_own_id K w x ≡ true → (new : Seat) → new ≡ record old { reads = new.reads; followed = new.followed; is_checked = new.is_checked }
-      → new.reads.items ≡ map (λ r. confirmed r) old.reads.items → new.followed ≡ length new.reads.items → new.is_checked ≡ true → Stands P S (ev (Worker w) (Check x (Ok tt)) ∷ K) (record j { seats = with_item j.seats w new })
-  found-valid x history own new rest items followed checked =
+  pub found-valid : (x : ℕ) → IsHistory S (ev (Worker w) (Check x (Ok tt)) ∷ K) → is_own_id K w x ≡ true → (new : Seat) → new ≡ record old { reads = new.reads; followed = new.followed; is_checked = new.is_checked; base_worth = new.base_worth }
+      → new.reads.items ≡ map (λ r. confirmed r) old.reads.items → new.followed ≡ length new.reads.items → new.is_checked ≡ true → worth_of new.base_worth ≡ validated (worth_of old.base_worth) → Stands P S (ev (Worker w) (Check x (Ok tt)) ∷ K) (record j { seats = with_item j.seats w new })
+  found-valid x history own new rest items followed checked worth =
       stands-seat P S K w (Check x (Ok tt)) j s history (quiet-kind (Check x (Ok tt)) refl refl refl refl refl refl refl refl refl refl refl) refl refl new
-      (seat-checked S K w old mine x (omega (arith, history.fits)) own new rest items followed checked)
+      (seat-checked S K w old mine x (omega (arith, history.fits)) own new rest items followed checked worth)
 
   pub found-other : (x : ℕ) → IsHistory S (ev (Worker w) (Check x (Ok tt)) ∷ K) → is_own_id K w x ≡ false → Stands P S (ev (Worker w) (Check x (Ok tt)) ∷ K) j
   found-other x history other =
@@ -242,5 +243,5 @@ refused-still P S K w j s l pid d errno history f =
       refused_same = own-refused S K w (OpenBase pid d (Err errno)) ∙ rw f refl;
       memory_same = own-memory S K w (OpenBase pid d (Err errno));
       base_same = own-base S K w (OpenBase pid d (Err errno)) refl;
-      named_same = own-named S K w (OpenBase pid d (Err errno)) refl;
+      worth_same = own-worth S K w (OpenBase pid d (Err errno));
     })

@@ -23,9 +23,10 @@ clauses_of_policy = Uncaused ∷ clauses_of_words
 abbrev pub clauses_of_outcome : List Clause
 clauses_of_outcome = GrantedNotDone ∷ OtherOutcome ∷ []
 
-abbrev pub clauses_behind_policy : List Clause
-clauses_behind_policy = clauses_of_outcome ++ AnsweredAlready ∷ []
+-- of an answer that its call was given
+abbrev pub clauses_of_accepted : List Clause
+clauses_of_accepted = clauses_of_policy ++ clauses_of_outcome
 
 -- of an answer for a call
 abbrev pub clauses_of_answers : List Clause
-clauses_of_answers = OtherAnswer ∷ (clauses_of_policy ++ clauses_behind_policy)
+clauses_of_answers = OtherAnswer ∷ (clauses_of_accepted ++ AnsweredAlready ∷ [])

@@ -25,8 +25,9 @@ use Rattle.broker_verdict.specs.Effects.{seat_call, texts_copied}
 use Rattle.broker_verdict.specs.Trusted.{broken_at, class_at}
 use Rattle.broker_verdict.specs.declared.clause.Clause.{Clause}
 use Rattle.broker_verdict.specs.declared.clause.Clause.TheVariants.{Unanswered}
-use Rattle.broker_verdict.specs.Seats.{confirmed, effect_of, has_sent, is_base_refused, is_checked, is_effect, named_then, of_call, reads}
+use Rattle.broker_verdict.specs.Seats.{confirmed, effect_of, has_sent, is_base_refused, is_checked, is_effect, base_worth, of_call, reads}
 use Rattle.broker_judge.specs.Called.{Counts, IsCalled}
+use Rattle.broker_judge.specs.Reads.{worth_of}
 use Rattle.judge_pass.specs.Counted.{AreCounted}
 use Rattle.judge_pass.specs.Entries.{IsEntry}
 use Rattle.judge_pass.specs.Tables.{AreMade, dirfd_named}
@@ -175,9 +176,7 @@ pub record IsSeat (S : Script) (K : List Event) (w : ℕ) (seat : Seat) : Type 0
   pub memory_is : mem K w ≡ place_of_group K seat.memory
   pub memory_made : IsBelow (groups_made K) seat.memory
   pub base_is : (files S K).base w ≡ ordinal_of seat.base
-  pub named_are : (g p : ℕ) (d : ℤ) → group_of K g ≡ Some p → IsSome seat.base
-      → named_then S K w p d ≡ dirfd_named S seat.named.rows.items g d
-  pub named_made : AreMade (groups_made K) seat.named.rows.items
+  pub base_worth_is : base_worth S K w ≡ worth_of seat.base_worth
 
 -- ---- all of it
 

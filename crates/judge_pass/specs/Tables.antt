@@ -4,6 +4,7 @@ use Rattle.std.specs.Prelude.{List, [], ◌∷◌, slice_get, All, Option, Some,
 use Rattle.std.specs.List.{find, list_any}
 use Rattle.hist_model.specs.Look.{is_place}
 use Rattle.hist_model.specs.declared.script.Script.{Script}
+use Rattle.broker_judge.specs.declared.reads.Worth.TheVariants.{Foreign}
 use Rattle.judge_pass.specs.declared.calls.Call.{Call}
 use Rattle.judge_pass.specs.declared.calls.Queued.{Queued}
 use Rattle.judge_pass.specs.declared.directories.OpenDirectory.{OpenDirectory}
@@ -11,6 +12,10 @@ use Rattle.judge_pass.specs.declared.done.Put.{Put}
 use Rattle.judge_pass.specs.declared.seats.Seat.{Seat}
 
 -- ---- calls
+
+-- the call waits for an answer
+abbrev pub is_unanswered : Call → Bool
+is_unanswered call = call.is_listed && not (call.is_settled || list_any (λ q. q.has_send) call.queue.items)
 
 -- the call was received, and waits for an answer
 abbrev pub waits : Call → Bool
@@ -96,19 +101,18 @@ pub record Begins (place : ℕ) (call : Option ℕ) (seat : Seat) : Type 0 where
   pub no_effect : seat.effect ≡ None
   pub unsent : seat.has_sent ≡ false
   pub unrefused : seat.is_base_refused ≡ false
+  pub base_worthless : seat.base_worth ≡ Foreign
 
 -- what the seat has open stays
 pub record KeepsHandles (old new : Seat) : Type 0 where
   pub memory_same : new.memory ≡ old.memory
   pub base_same : new.base ≡ old.base
-  pub named_same : new.named ≡ old.named
 
 -- nothing has happened to the seat
 pub record IsIdle (seat : Seat) : Type 0 where
   pub begun : Begins 0 None seat
   pub no_memory : seat.memory ≡ None
   pub no_base : seat.base ≡ None
-  pub none_named : seat.named.rows.items ≡ []
 
 -- each of them is such a seat
 abbrev pub AreIdle : List Seat → Type 0

@@ -1,14 +1,14 @@
 -- Results that nobody was told, as the code finds them: by the numbers of effects.
 use Rattle.std.specs.Prelude.{◌≡◌, ℕ, ◌<◌, Bool, ◌&&◌, ◌||◌, not, if◌then◌else◌, ◌==◌, bytes_eq, List, [], ◌∷◌, get_or}
-use Rattle.std.specs.Prelude.{Option, Some, None, is_some}
+use Rattle.std.specs.Prelude.{Option, Some, None, is_some, nat_le}
 use Rattle.std.specs.Ordering.{int_eq}
 use Rattle.hist_model.specs.Calls.{caller, settled}
-use Rattle.hist_model.specs.Look.{name_eq}
+use Rattle.hist_model.specs.Look.{before, name_eq}
 use Rattle.hist_model.specs.declared.event.Event.{Event}
 use Rattle.hist_model.specs.declared.event.What.{What}
 use Rattle.hist_model.specs.declared.event.What.TheVariants.{Act, AddfdPut}
 use Rattle.history_frames.specs.Ordinals.{nth_of}
-use Rattle.broker_verdict.specs.Answers.{gave_at, is_told, is_untold, remembered, tells, valid_texts}
+use Rattle.broker_verdict.specs.Answers.{gave_at, is_told, is_untold, only_enters_again, remembered, tells, valid_texts}
 use Rattle.broker_verdict.specs.Effects.{texts_of}
 use Rattle.broker_verdict.specs.Seats.{args_of, effect_of, is_effect, nr_of, of_call}
 use Rattle.judge_pass.specs.declared.done.Done.{Done}
@@ -33,6 +33,10 @@ have_same_registers K c d = int_eq (nr_of K c) (nr_of K d) && bytes_eq (args_of 
 abbrev pub may_be_told : List Event → ℕ → ℕ → ℕ → Bool
 may_be_told K c d p =
     not (is_told K p) && (not (d == c) && (not (settled K d) && (have_same_registers K c d && is_some (gave_at K (Some p)))))
+
+-- the task that entered the call at place c took no other steps than those that lead to it from this place on
+abbrev pub IsFirst : List Event → ℕ → ℕ → Type 0
+IsFirst K c first = (d : ℕ) → only_enters_again (before K c) d (caller K c) (nr_of K c) (args_of K c) ≡ nat_le first d
 
 -- the effect with a number can be told to the call that a seat has in hand
 abbrev pub can_be_told : List Event → ℕ → ℕ → ℕ → Bool

@@ -1,6 +1,6 @@
 //! The clauses of an answer.
 
-ghost use Rattle.std.specs.Prelude.{◌≡◌, ◌<◌, ◌&&◌, if◌then◌else◌, ℕ, List, Result, Some};
+ghost use Rattle.std.specs.Prelude.{◌≡◌, ◌<◌, ◌&&◌, if◌then◌else◌, ℕ, List, Ok, Some};
 ghost use Rattle.std.specs.Prelude.{None, is_some, true, pos, not, length, reverse, IfOk};
 ghost use Rattle.std.specs.Ordering.{int_eq};
 ghost use Rattle.broker_verdict.specs.Answers.{allows_error, cannot_put, has_known, is_answering, is_second, number_told};
@@ -15,7 +15,7 @@ ghost use Rattle.hist_model.specs.declared.event.What.TheVariants.{Send};
 ghost use Rattle.hist_model.specs.declared.policy.Policy.{Policy};
 ghost use Rattle.hist_model.specs.declared.script.Script.{Script};
 ghost use Rattle.broker_judge.specs.Said.{IsSaid};
-ghost use Rattle.judge_pass.specs.Clauses.{clauses_behind_policy, clauses_of_answers};
+ghost use Rattle.judge_pass.specs.Clauses.{clauses_of_accepted, clauses_of_answers};
 ghost use Rattle.judge_pass.specs.Clauses.{clauses_of_outcome, clauses_of_policy, clauses_of_words};
 ghost use Rattle.judge_pass.specs.Outcomes.{deed_of_seat, forbids_error, outcome_of_seat};
 ghost use Rattle.judge_pass.specs.Stands.{IsCall, IsSeat, Stands, is_put};
@@ -84,34 +84,39 @@ fn broken_for_call(
     if call.called.id != id {
         return Ok(Some(Clause::OtherAnswer));
     }
-    if let Some(clause) = broken_by_policy(judge, policy, &judge.seats[worker], call, back)? {
-        return Ok(Some(clause));
+    match answer {
+        Ok(()) => broken_by_accepted(judge, policy, before, worker, call, back),
+        Err(_) => {
+            let is_first = !is_second(judge, before, &judge.seats[worker], answer);
+            Ok(broken_unless(is_first, Clause::AnsweredAlready))
+        }
     }
-    broken_behind_policy(judge, before, worker, back, answer)
 }
 
-/// The first clause that an answer breaks by what came of an effect, or since it isn't the first one.
-fn broken_behind_policy(
+/// The first clause that an answer breaks which its call was given.
+fn broken_by_accepted(
     judge: &Judge,
+    policy: &Policy,
     before: &[Event],
     worker: usize,
+    call: &Call,
     back: &Back,
-    answer: &Result<(), Errno>,
 ) -> Result<Option<Clause>, NoMemory>
     requires within { IsWithin judge.now }
     requires among { AreAmong (length before.now) judge.now }
+    requires times { HasTimes policy.now judge.now }
     requires worker { worker < 17 }
-    ensures { IfOk result (λ found. (P : Policy) (S : Script) (c id : ℕ) → Stands P S (reverse before.now) judge.now
-        → session_call (reverse before.now) worker ≡ Some c
+    ensures { IfOk result (λ found. (S : Script) (n id : ℕ) → Stands policy.now S (reverse before.now) judge.now
+        → IsCall S (reverse before.now) n call.now → session_call (reverse before.now) worker ≡ Some call.now.place
         → found
-        ≡ first_broken (λ clause. answer_breaks P S clause (reverse before.now) worker c (Send id back.now answer.now))
-        clauses_behind_policy) }
+        ≡ first_broken
+        (λ clause. answer_breaks policy.now S clause (reverse before.now) worker call.now.place (Send id back.now (Ok tt)))
+        clauses_of_accepted) }
 {
-    if let Some(clause) = broken_by_outcome(judge, before, worker, back)? {
+    if let Some(clause) = broken_by_policy(judge, policy, &judge.seats[worker], call, back)? {
         return Ok(Some(clause));
     }
-    let is_first = !is_second(judge, before, &judge.seats[worker], answer);
-    Ok(broken_unless(is_first, Clause::AnsweredAlready))
+    broken_by_outcome(judge, before, worker, back)
 }
 
 /// The first clause that an answer breaks by what the policy says.
@@ -124,10 +129,10 @@ fn broken_by_policy(
 ) -> Result<Option<Clause>, NoMemory>
     requires times { HasTimes policy.now judge.now }
     requires seat { IsSeatWithin judge.now seat.now }
-    ensures { IfOk result (λ found. (S : Script) (K : List Event) (w n id : ℕ) (answer : Result (Unit {0}) ℕ)
+    ensures { IfOk result (λ found. (S : Script) (K : List Event) (w n id : ℕ)
         → Stands policy.now S K judge.now → IsSeat S K w seat.now → IsCall S K n call.now
         → found
-        ≡ first_broken (λ clause. answer_breaks policy.now S clause K w call.now.place (Send id back.now answer)) clauses_of_policy) }
+        ≡ first_broken (λ clause. answer_breaks policy.now S clause K w call.now.place (Send id back.now (Ok tt))) clauses_of_policy) }
 {
     match seat.effect {
         Some(_) => Ok(broken_with_effect(back)),
@@ -137,8 +142,8 @@ fn broken_by_policy(
 
 /// The clause that an answer with an effect breaks by what the policy says: it lets the call run natively.
 fn broken_with_effect(back: &Back) -> Option<Clause>
-    ensures { (P : Policy) (S : Script) (K : List Event) (w c id : ℕ) (answer : Result (Unit {0}) ℕ) → is_some (effect_of K w) ≡ true
-        → result ≡ first_broken (λ clause. answer_breaks P S clause K w c (Send id back.now answer)) clauses_of_policy }
+    ensures { (P : Policy) (S : Script) (K : List Event) (w c id : ℕ) → is_some (effect_of K w) ≡ true
+        → result ≡ first_broken (λ clause. answer_breaks P S clause K w c (Send id back.now (Ok tt))) clauses_of_policy }
 {
     match back {
         Back::Continue => Some(Clause::PassedOtherwise),
@@ -156,10 +161,10 @@ fn broken_without_effect(
 ) -> Result<Option<Clause>, NoMemory>
     requires times { HasTimes policy.now judge.now }
     requires seat { IsSeatWithin judge.now seat.now }
-    ensures { IfOk result (λ found. (S : Script) (K : List Event) (w n id : ℕ) (answer : Result (Unit {0}) ℕ)
+    ensures { IfOk result (λ found. (S : Script) (K : List Event) (w n id : ℕ)
         → Stands policy.now S K judge.now → IsSeat S K w seat.now → IsCall S K n call.now → effect_of K w ≡ None
         → found
-        ≡ first_broken (λ clause. answer_breaks policy.now S clause K w call.now.place (Send id back.now answer)) clauses_of_policy) }
+        ≡ first_broken (λ clause. answer_breaks policy.now S clause K w call.now.place (Send id back.now (Ok tt))) clauses_of_policy) }
 {
     let said = said_of(judge.alloc, policy, &call.called, seat.reads.as_slice())?;
     if lacks_cause(&said) {
@@ -186,11 +191,11 @@ fn broken_by_words(
     back: &Back,
 ) -> Result<Option<Clause>, NoMemory>
     requires times { HasTimes policy.now judge.now }
-    ensures { IfOk result (λ found. (S : Script) (K : List Event) (w n id : ℕ) (answer : Result (Unit {0}) ℕ)
+    ensures { IfOk result (λ found. (S : Script) (K : List Event) (w n id : ℕ)
         → Stands policy.now S K judge.now → IsSeat S K w seat.now → IsCall S K n call.now → IsSaid policy.now K w call.now.place said.now
         → effect_of K w ≡ None
         → found
-        ≡ first_broken (λ clause. answer_breaks policy.now S clause K w call.now.place (Send id back.now answer)) clauses_of_words) }
+        ≡ first_broken (λ clause. answer_breaks policy.now S clause K w call.now.place (Send id back.now (Ok tt))) clauses_of_words) }
 {
     match back {
         Back::Fail(errno) => {
@@ -227,10 +232,10 @@ fn broken_by_outcome(
     requires within { IsWithin judge.now }
     requires among { AreAmong (length before.now) judge.now }
     requires worker { worker < 17 }
-    ensures { IfOk result (λ found. (P : Policy) (S : Script) (c id : ℕ) (answer : Result (Unit {0}) ℕ)
+    ensures { IfOk result (λ found. (P : Policy) (S : Script) (c id : ℕ)
         → Stands P S (reverse before.now) judge.now → session_call (reverse before.now) worker ≡ Some c
         → found
-        ≡ first_broken (λ clause. answer_breaks P S clause (reverse before.now) worker c (Send id back.now answer)) clauses_of_outcome) }
+        ≡ first_broken (λ clause. answer_breaks P S clause (reverse before.now) worker c (Send id back.now (Ok tt))) clauses_of_outcome) }
 {
     match back {
         Back::Value(value) => broken_by_value(judge, before, worker, *value),
@@ -266,10 +271,10 @@ fn broken_by_value(
     requires within { IsWithin judge.now }
     requires among { AreAmong (length before.now) judge.now }
     requires worker { worker < 17 }
-    ensures { IfOk result (λ found. (P : Policy) (S : Script) (c id : ℕ) (answer : Result (Unit {0}) ℕ)
+    ensures { IfOk result (λ found. (P : Policy) (S : Script) (c id : ℕ)
         → Stands P S (reverse before.now) judge.now → session_call (reverse before.now) worker ≡ Some c
         → found
-        ≡ first_broken (λ clause. answer_breaks P S clause (reverse before.now) worker c (Send id (Value value) answer))
+        ≡ first_broken (λ clause. answer_breaks P S clause (reverse before.now) worker c (Send id (Value value) (Ok tt)))
         clauses_of_outcome) }
 {
     let number = number_told(judge, before, worker)?;

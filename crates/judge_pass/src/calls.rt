@@ -3,7 +3,7 @@
 ghost use Rattle.std.specs.Prelude.{◌≡◌, [], ◌∷◌, ◌++◌, ◌&&◌, ◌||◌, length, IfOk};
 ghost use Rattle.std.specs.List.{list_any};
 ghost use Rattle.hist_model.specs.Kinds.{has_send_flag};
-ghost use Rattle.judge_pass.specs.Tables.{behind_first, first_effect, first_sends, number_named, waits};
+ghost use Rattle.judge_pass.specs.Tables.{behind_first, first_effect, first_sends, is_unanswered, number_named, waits};
 
 use broker_judge::called::Called;
 use std::alloc::Global;
@@ -54,10 +54,14 @@ impl Call {
     pub(crate) fn is_waiting(&self) -> bool
         ensures { result ≡ waits self.now }
     {
-        self.is_listed
-            && self.fetcher.is_some()
-            && !self.is_settled
-            && !has_answer(self.queue.as_slice())
+        self.fetcher.is_some() && self.is_unanswered()
+    }
+
+    /// Whether it waits for an answer, received or not.
+    pub(crate) fn is_unanswered(&self) -> bool
+        ensures { result ≡ is_unanswered self.now }
+    {
+        self.is_listed && !self.is_settled && !has_answer(self.queue.as_slice())
     }
 
     /// Its oldest request without an installation has one now: the effect that it is, if there is one. One with SEND that gave a number

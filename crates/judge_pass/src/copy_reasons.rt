@@ -155,14 +155,29 @@ fn left_at(case: &Case<'_>, call: &Call) -> Option<usize> {
 
 /// Adds where the call left the list, and the byte that was read behind that.
 pub(crate) fn push_stale(line: &mut LineBuffer, case: &Case<'_>) -> Result<(), NoMemory> {
-    if let Some(place) = left_at(case, case.call) {
-        push_at(line, case, place, "here the call left the list")?;
-    }
+    push_left(line, case)?;
     push_weakest(line, case, false)
 }
 
-/// Adds the last good check, and the byte that was read behind it.
+/// Adds where the call left the list.
+fn push_left(line: &mut LineBuffer, case: &Case<'_>) -> Result<(), NoMemory> {
+    match left_at(case, case.call) {
+        Some(place) => push_at(line, case, place, "here the call left the list"),
+        None => Ok(()),
+    }
+}
+
+/// Adds the last good check, and the byte that was read behind it; or the directory that no check follows.
 pub(crate) fn push_unchecked(line: &mut LineBuffer, case: &Case<'_>) -> Result<(), NoMemory> {
+    let weak = weakest(case)?;
+    if weak.read.is_none() && case.seat.is_checked && case.seat.base_worth == Worth::Fresh {
+        return push_at(
+            line,
+            case,
+            base_opened_at(case),
+            "no check of the directory that was opened here",
+        );
+    }
     push_check(line, case, "no check since here")?;
     push_weakest(line, case, false)
 }
@@ -181,17 +196,41 @@ fn base_opened_at(case: &Case<'_>) -> usize {
     found
 }
 
-/// Adds that no directory was opened, or where another one than the call's was.
+/// Adds why the seat's directory isn't the call's: none was opened, or it was opened for another call, or when this one was no longer
+/// listed, or the call's descriptor leads elsewhere.
 pub(crate) fn push_other_base(line: &mut LineBuffer, case: &Case<'_>) -> Result<(), NoMemory> {
+    let received_at = case.seat.received_at;
     if case.seat.base.is_none() {
         return push_at(
             line,
             case,
-            case.seat.received_at,
+            received_at,
             "no directory was opened since here",
         );
     }
-    begin_at(line, case, base_opened_at(case))?;
+    let opened_at = base_opened_at(case);
+    if opened_at < received_at {
+        return push_at(
+            line,
+            case,
+            received_at,
+            "the directory that it has was opened for another call, before this",
+        );
+    }
+    if case.seat.base_worth == Worth::Stale {
+        push_left(line, case)?;
+        return push_at(line, case, opened_at, "the directory was opened here");
+    }
+    push_elsewhere(line, case, opened_at)
+}
+
+/// Adds that the call's descriptor leads to another directory than the one that was opened at a place.
+fn push_elsewhere(
+    line: &mut LineBuffer,
+    case: &Case<'_>,
+    opened_at: usize,
+) -> Result<(), NoMemory> {
+    begin_at(line, case, opened_at)?;
     line.push("the call's descriptor ")?;
     if let Some(dirfd) = base_dirfd(case.call.called.nr, &case.call.called.args) {
         line.push_signed(i64::from(dirfd))?;

@@ -49,15 +49,6 @@ impl Directories {
         }
     }
 
-    /// The same once more.
-    pub(crate) fn copied(&self, alloc: Global) -> Result<Directories, NoMemory>
-        ensures { IfOk result (λ copied. copied.rows.items ≡ self.now.rows.items) }
-    {
-        Ok(Directories {
-            rows: Vec::from_slice(alloc, self.rows.as_slice())?,
-        })
-    }
-
     /// The directory to which a descriptor of a group leads: AT_FDCWD to the container's root.
     pub(crate) fn named(&self, script: &Script, group: u32, dirfd: i32) -> Option<NodeRef>
         ensures { ordinal_of result ≡ dirfd_named script.now self.now.rows.items group dirfd }

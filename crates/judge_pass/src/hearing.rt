@@ -2,7 +2,7 @@
 
 ghost use Rattle.std.specs.Prelude.{◌≡◌, ◌+◌, ◌<◌, ◌^◌, ◌∷◌, List, IfOk, IfSome, Some, None, false, true};
 ghost use Rattle.std.specs.Prelude.{length, option_map, reverse};
-ghost use Rattle.broker_verdict.specs.Trusted.{breaks_by, class_at, class_of, clauses, first_broken, graver};
+ghost use Rattle.broker_verdict.specs.Trusted.{breaks_by, class_at, class_of, clauses, did_nothing, first_broken, graver, lessened};
 ghost use Rattle.broker_verdict.specs.declared.clause.Clause.TheVariants.{Unanswered};
 ghost use Rattle.hist_model.specs.Kinds.{makes};
 ghost use Rattle.hist_model.specs.Look.{ev};
@@ -143,7 +143,7 @@ impl Judge {
         let broken = self.broken(policy, script, before, worker, what)?;
         match broken {
             Some(clause) => {
-                let fault = self.fault(policy, script, worker, what, clause)?;
+                let fault = self.fault(policy, script, before, worker, what, clause)?;
                 Ok(Some(fault))
             }
             None => self.take_step(policy, script, holder, before, number, what),
@@ -185,26 +185,29 @@ impl Judge {
         Ok(unanswered(left))
     }
 
-    /// The fault of a worker's event that breaks this clause: what breaks the order alone is as grave as what it breaks besides.
+    /// The fault of a worker's event that breaks this clause: what breaks the order alone is as grave as what it breaks besides, and an
+    /// effect that failed breaks the order alone.
     fn fault(
         &self,
         policy: &Policy,
         script: &Script,
+        before: &[Event],
         worker: usize,
         what: &What,
         clause: Clause,
     ) -> Result<Fault, NoMemory>
         requires within { IsWithin self.now }
+        requires among { AreAmong (length before.now) self.now }
         requires times { HasTimes policy.now self.now }
         requires worker { worker < 17 }
         ensures clause { IfOk result (λ fault. fault.clause ≡ clause) }
-        ensures class { IfOk result (λ fault. (K : List EventValue) → Stands policy.now script.now K self.now
-            → fault.class ≡ class_at policy.now script.now K (ev (Worker worker) what.now) clause) }
+        ensures class { IfOk result (λ fault. Stands policy.now script.now (reverse before.now) self.now
+            → fault.class ≡ class_at policy.now script.now (reverse before.now) (ev (Worker worker) what.now) clause) }
         ensures call { IfOk result (λ fault. (K : List EventValue) → Stands policy.now script.now K self.now
             → place_of_call K fault.call ≡ session_call K worker) }
     {
-        let later = broken_later(self, policy, script, worker, what)?;
-        let class = graver(class_of(clause), later);
+        let later = broken_later(self, policy, script, before, worker, what)?;
+        let class = lessened(graver(class_of(clause), later), did_nothing(what));
         let seat = &self.seats[worker];
         Ok(Fault {
             clause,
@@ -231,7 +234,7 @@ impl Judge {
             ≡ first_broken (λ clause. breaks_by policy.now script.now clause (reverse before.now) (Worker worker) what.now) clauses) }
     {
         if is_effect(what) {
-            return broken_by_effect(self, policy, script, worker, what);
+            return broken_by_effect(self, policy, script, before, worker, what);
         }
         match what {
             What::Send { id, back, answer } => {
@@ -252,6 +255,28 @@ fn graver(class: Class, later: Option<Clause>) -> Class
             None => class,
         },
         Class::Harm | Class::Answer => class,
+    }
+}
+
+/// The order alone, where an effect did nothing, in place of harm.
+fn lessened(class: Class, did_nothing: bool) -> Class
+    ensures { result ≡ lessened class did_nothing }
+{
+    match class {
+        Class::Harm => { if did_nothing { Class::Order } else { class } }
+        Class::Order | Class::Answer => class,
+    }
+}
+
+/// Whether it is an effect that failed.
+fn did_nothing(what: &What) -> bool
+    ensures { result ≡ did_nothing what.now }
+{
+    match what {
+        What::Act { answer, .. } | What::Plant { answer, .. } | What::AddfdPut { answer, .. } => {
+            answer.is_err()
+        }
+        _ => false,
     }
 }
 

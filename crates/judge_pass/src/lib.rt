@@ -9,6 +9,7 @@ mod directories;
 mod done;
 mod effect_events;
 mod effects;
+mod entered_again;
 pub mod heads;
 mod hearing;
 pub mod judge;

@@ -1,5 +1,7 @@
 //! Why the policy doesn't grant an effect, or not once more.
 
+ghost use Rattle.arg_capture.specs.Plans.{IsSound};
+
 use crate::effects::rule_of;
 use crate::made_texts::{are_answered, texts_copied};
 use crate::reasons::{Case, begin_at, push_at};
@@ -9,7 +11,9 @@ use arg_capture::Part;
 use audit_log::line::LineBuffer;
 use audit_log::words::push_errno;
 use broker_judge::called::{decide_with, texts_of};
-use broker_judge::reads::{SeatRead, Seen};
+use broker_judge::reads::{SeatRead, Seen, Worth};
+use broker_judge::stood::stood_text;
+use broker_judge::texts::fits_part;
 use hist_model::event::What;
 use hist_model::policy::{Policy, Verdict};
 use hist_model::text::Text;
@@ -70,19 +74,20 @@ fn push_readings(line: &mut LineBuffer, case: &Case<'_>, texts: &[Text]) -> Resu
             parts.drop_first();
         }
     }
-    push_noted(line, case, noted.as_slice())
+    push_noted(line, case, noted.as_slice(), "the ")
 }
 
-/// Adds the reads that are noted, each with the text that was read.
+/// Adds the reads that are noted, each with the text that was read, behind these words.
 fn push_noted(
     line: &mut LineBuffer,
     case: &Case<'_>,
     noted: &[Option<usize>],
+    words: &str,
 ) -> Result<(), NoMemory> {
     for read in 0..noted.len() {
         if let (Some(part), Some((place, _group))) = (noted[read], case.seat.read_at.get(read)) {
             begin_at(line, case, *place)?;
-            line.push("the ")?;
+            line.push(words)?;
             line.push(text_name(case.call.called.nr, part))?;
             line.push(" was read here\n")?;
         }
@@ -126,6 +131,44 @@ pub(crate) fn push_said(
         }
         _ => Ok(()),
     }
+}
+
+/// The first text, by its place, that never stood so in the caller's memory, as far as the reads tell that a good check follows.
+fn first_torn(case: &Case<'_>, texts: &[Text]) -> Result<Option<(usize, Part)>, NoMemory> {
+    let mut parts = plan_of(case.call);
+    for at in 0..texts.len() {
+        if let Some(part) = parts.first() {
+            if !stands(case, &part, texts[at].items())? {
+                return Ok(Some((at, part)));
+            }
+            parts.drop_first();
+        }
+    }
+    Ok(None)
+}
+
+/// Whether a part can have a text, and it stood so in the caller's memory, as far as the reads tell that a good check follows.
+fn stands(case: &Case<'_>, part: &Part, text: &[u8]) -> Result<bool, NoMemory>
+    requires { IsSound part.now }
+{
+    let reads = case.seat.reads.as_slice();
+    Ok(fits_part(part, text) && stood_text(case.judge.alloc, reads, Worth::Valid, part, text)?)
+}
+
+/// Adds the reads of whose bytes a text is made that never stood so.
+pub(crate) fn push_torn(line: &mut LineBuffer, case: &Case<'_>) -> Result<(), NoMemory> {
+    let texts = texts_done(case)?;
+    let Some((at, part)) = first_torn(case, texts.as_slice())? else {
+        return Ok(());
+    };
+    let Some(text) = texts.get(at) else {
+        return Ok(());
+    };
+    let alloc = case.judge.alloc;
+    let reads = case.seat.reads.as_slice();
+    let mut noted = vec![in alloc; None; reads.len()]?;
+    note_support(alloc, reads, &part, at, text.items(), noted.as_mut_slice())?;
+    push_noted(line, case, noted.as_slice(), "a part of the ")
 }
 
 /// Adds the reads on which the effect may rest, and what the policy says of its texts.

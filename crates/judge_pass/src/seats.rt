@@ -2,11 +2,11 @@
 
 ghost use Rattle.std.specs.Prelude.{◌≡◌, ◌≤◌, ◌∷◌, ◌++◌, [], length, map, take, true, None, IfOk};
 ghost use Rattle.std.specs.List.{All};
-ghost use Rattle.broker_verdict.specs.Seats.{confirmed};
+ghost use Rattle.broker_judge.specs.Reads.{worth_of};
+ghost use Rattle.broker_verdict.specs.Seats.{confirmed, validated};
 ghost use Rattle.judge_pass.specs.Tables.{Begins, IsIdle, KeepsHandles};
 
-use crate::directories::Directories;
-use broker_judge::reads::SeatRead;
+use broker_judge::reads::{SeatRead, Worth};
 use hist_model::request::NodeRef;
 use std::alloc::Global;
 use sys_abi::memory::NoMemory;
@@ -24,7 +24,7 @@ pub(crate) struct Seat {
     pub(crate) read_at: Vec<(usize, u32)>,
     /// How many of these a good check follows.
     pub(crate) followed: usize,
-    /// A check of the call's id was good since its receive.
+    /// A check of the call's id was good since its receive, and since it opened the memory that it has.
     pub(crate) is_checked: bool,
     /// Its newest effect since then.
     pub(crate) effect: Option<usize>,
@@ -36,8 +36,8 @@ pub(crate) struct Seat {
     pub(crate) memory: Option<u32>,
     /// The directory that it has open.
     pub(crate) base: Option<NodeRef>,
-    /// What descriptors led to when it opened that.
-    pub(crate) named: Directories,
+    /// How far that can be relied on as the one of its call.
+    pub(crate) base_worth: Worth,
 }
 
 impl Seat {
@@ -56,7 +56,7 @@ impl Seat {
             is_base_refused: false,
             memory: None,
             base: None,
-            named: Directories::new(alloc),
+            base_worth: Worth::Foreign,
         }
     }
 
@@ -74,6 +74,7 @@ impl Seat {
         self.effect = None;
         self.has_sent = false;
         self.is_base_refused = false;
+        self.base_worth = Worth::Foreign;
     }
 
     /// It has let go of what it has open.
@@ -81,7 +82,6 @@ impl Seat {
         ensures begun { Begins place None self.new }
         ensures memory { self.new.memory ≡ None }
         ensures base { self.new.base ≡ None }
-        ensures named { self.new.named ≡ self.old.named }
     {
         self.begin(place, None);
         self.memory = None;
@@ -95,13 +95,15 @@ impl Seat {
         ensures reads { self.new.reads.items ≡ map (λ r. confirmed r) self.old.reads.items }
         ensures followed { self.new.followed ≡ length self.new.reads.items }
         ensures checked { self.new.is_checked ≡ true }
-        ensures rest { self.new ≡ record self.old { reads = self.new.reads; followed = self.new.followed; is_checked = self.new.is_checked } }
+        ensures worth { worth_of self.new.base_worth ≡ validated (worth_of self.old.base_worth) }
+        ensures rest { self.new ≡ record self.old { reads = self.new.reads; followed = self.new.followed; is_checked = self.new.is_checked; base_worth = self.new.base_worth } }
     {
         for place in self.followed..self.reads.len() {
             self.reads[place].confirm();
         }
         self.followed = self.reads.len();
         self.is_checked = true;
+        self.base_worth = self.base_worth.validated();
     }
 
     /// It has read, at this place and in the memory of a group.

@@ -1,10 +1,11 @@
 //! Results that nobody was told: those of effects for earlier calls, which were entered anew.
 
 ghost use Rattle.std.specs.Prelude.{◌≡◌, ◌<◌, ◌&&◌, ◌==◌, not, bytes_eq, ℕ, ℤ, Ok, Some};
-ghost use Rattle.std.specs.Prelude.{None, true, false, length, reverse, find, All, IfOk, IfSome, OnOk};
+ghost use Rattle.std.specs.Prelude.{None, true, false, length, nat_le, nat_lt, reverse, find, All, IfOk, IfSome, OnOk};
 ghost use Rattle.std.specs.List.{AllByRecursion, list_any};
 ghost use Rattle.std.specs.Ordering.{int_eq};
-ghost use Rattle.broker_verdict.specs.Answers.{gave_at, place_told, remembered, share_texts, texts_eq, valid_texts};
+ghost use Rattle.broker_verdict.specs.Answers.{gave_at, may_share_texts, place_told, remembered, share_texts, valid_texts};
+ghost use Rattle.broker_verdict.specs.Effects.{texts_eq};
 ghost use Rattle.broker_verdict.specs.Seats.{effect_of, reads};
 ghost use Rattle.hist_model.specs.Look.{ev};
 ghost use Rattle.hist_model.specs.Steps.{session_call};
@@ -15,11 +16,12 @@ ghost use Rattle.hist_model.specs.declared.policy.Policy.{Policy};
 ghost use Rattle.hist_model.specs.declared.script.Script.{Script};
 ghost use Rattle.broker_judge.specs.Copied.{IsAnswered};
 ghost use Rattle.judge_pass.specs.Stands.{Stands, hand_at, place_of_call, place_of_effect};
-ghost use Rattle.judge_pass.specs.Told.{NotesTold, can_be_told, effect_is_for, may_be_told, own_told, remembered_for, texts_kept};
+ghost use Rattle.judge_pass.specs.Told.{IsFirst, NotesTold, can_be_told, effect_is_for, may_be_told, own_told, remembered_for, texts_kept};
 ghost use Rattle.judge_pass.specs.Within.{AreAmong, IsWithin, calls_kept, effects_kept};
 
 use crate::calls::Call;
 use crate::done::Done;
+use crate::entered_again::first_entered;
 use crate::judge::Judge;
 use crate::made_texts::{one_list, whole_copies};
 use crate::outcomes::gave;
@@ -51,7 +53,7 @@ fn are_equal(a: &[Text], b: &[Text]) -> bool
 }
 
 /// Whether these texts are among others.
-fn has_texts(others: &[Sequence<Text>], texts: &[Text]) -> bool
+pub(crate) fn has_texts(others: &[Sequence<Text>], texts: &[Text]) -> bool
     ensures { result ≡ list_any (texts_eq texts.now) others.now }
 {
     others.iter().any(|one| are_equal(texts, one.items()))
@@ -64,27 +66,34 @@ fn share_texts(all: &[Sequence<Text>], others: &[Sequence<Text>]) -> bool
     all.iter().any(|texts| has_texts(others, texts.items()))
 }
 
-/// Whether an effect was done for one of these lists of texts.
+/// Whether two lists have a list of texts in common, or the second one rests on no texts.
+fn may_share_texts(all: &[Sequence<Text>], done: &[Sequence<Text>]) -> bool
+    ensures { result ≡ may_share_texts all.now done.now }
+{
+    done.is_empty() || share_texts(all, done)
+}
+
+/// Whether an effect was done for one of these lists of texts, or for any.
 pub(crate) fn shares_texts(
     alloc: Global,
     done: &Done,
     what: &What,
     all: &[Sequence<Text>],
 ) -> Result<bool, NoMemory>
-    ensures { IfOk result (λ b. b ≡ share_texts all.now (texts_kept what.now done.now.put)) }
+    ensures { IfOk result (λ b. b ≡ may_share_texts all.now (texts_kept what.now done.now.put)) }
 {
     match what {
         What::Act { request, .. } => {
             let named = one_list(alloc, texts_of(alloc, request.get())?)?;
-            Ok(share_texts(all, named.as_slice()))
+            Ok(may_share_texts(all, named.as_slice()))
         }
         What::AddfdPut { .. } => match &done.put {
-            Some(put) => Ok(share_texts(all, put.texts.as_slice())),
-            None => Ok(share_texts(all, &[])),
+            Some(put) => Ok(may_share_texts(all, put.texts.as_slice())),
+            None => Ok(true),
         },
         _ => {
             let none = one_list(alloc, Vec::new(alloc))?;
-            Ok(share_texts(all, none.as_slice()))
+            Ok(may_share_texts(all, none.as_slice()))
         }
     }
 }
@@ -143,12 +152,22 @@ fn some_may_be_told(judge: &Judge, before: &[Event], untold: &[usize], call: usi
     false
 }
 
-/// Whether the effect can be told to a call of the same task, of which these copies are whole.
+/// Whether a call was interrupted, and is this later one, which its task entered anew. The task took no other steps from the first
+/// place on until the later one.
+fn is_entered_anew(first: usize, later: &Call, earlier: &Call) -> bool
+    ensures { result ≡ (nat_lt earlier.now.place later.now.place && nat_le first earlier.now.place) }
+{
+    earlier.place < later.place && first <= earlier.place
+}
+
+/// Whether the effect can be told to a call of the same task, of which these copies are whole. The task took no other steps than those
+/// that lead to this call from the first place on until it was entered.
 fn can_be_told(
     judge: &Judge,
     before: &[Event],
     effect: usize,
     call: usize,
+    first: usize,
     all: &[Sequence<Text>],
 ) -> Result<bool, NoMemory>
     requires within { IsWithin judge.now }
@@ -157,12 +176,17 @@ fn can_be_told(
     requires call { call < calls_kept judge.now }
     ensures { IfOk result (λ b. (P : Policy) (S : Script) (w c : ℕ) → Stands P S (reverse before.now) judge.now
         → place_of_call (reverse before.now) (Some call) ≡ Some c → all.now ≡ valid_texts (reverse before.now) w c
-        → effect_is_for (reverse before.now) c effect ≡ true → b ≡ can_be_told (reverse before.now) w c effect) }
+        → IsFirst (reverse before.now) c first → effect_is_for (reverse before.now) c effect ≡ true
+        → b ≡ can_be_told (reverse before.now) w c effect) }
 {
     if !may_be_told(judge, before, effect, call) {
         return Ok(false);
     }
     let done = &judge.done[effect];
+    let earlier = &judge.calls.rows[done.call];
+    if !is_entered_anew(first, &judge.calls.rows[call], earlier) {
+        return Ok(false);
+    }
     shares_texts(judge.alloc, done, &before[done.place].what, all)
 }
 
@@ -172,6 +196,7 @@ fn first_told(
     before: &[Event],
     untold: &[usize],
     call: usize,
+    first: usize,
     all: &[Sequence<Text>],
 ) -> Result<Option<usize>, NoMemory>
     requires within { IsWithin judge.now }
@@ -181,12 +206,12 @@ fn first_told(
     ensures kept { IfOk result (λ found. IfSome found (λ n. n < effects_kept judge.now)) }
     ensures first { IfOk result (λ found. (P : Policy) (S : Script) (w c : ℕ) → Stands P S (reverse before.now) judge.now
         → place_of_call (reverse before.now) (Some call) ≡ Some c → all.now ≡ valid_texts (reverse before.now) w c
-        → AllByRecursion (λ n. effect_is_for (reverse before.now) c n ≡ true) untold.now
+        → IsFirst (reverse before.now) c first → AllByRecursion (λ n. effect_is_for (reverse before.now) c n ≡ true) untold.now
         → found ≡ find (can_be_told (reverse before.now) w c) untold.now) }
 {
     let mut rest = untold;
     while let Some((effect, later)) = rest.split_first() {
-        if can_be_told(judge, before, *effect, call, all)? {
+        if can_be_told(judge, before, *effect, call, first, all)? {
             return Ok(Some(*effect));
         }
         rest = later;
@@ -236,8 +261,9 @@ fn remembered_for(
     if !some_may_be_told(judge, before, untold, call) {
         return Ok(None);
     }
+    let first = first_entered(before, row.place, &row.called);
     let all = whole_copies(judge.alloc, seat, &row.called, Worth::Valid)?;
-    first_told(judge, before, untold, call, all.as_slice())
+    first_told(judge, before, untold, call, first, all.as_slice())
 }
 
 /// The seat's own effect, where it gave a number.

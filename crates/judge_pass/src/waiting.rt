@@ -1,4 +1,4 @@
-//! A call that the broker leaves waiting.
+//! A call that the broker leaves waiting, received or not.
 
 ghost use Rattle.std.specs.Prelude.{◌≡◌, ◌<◌, false, List, length, is_some};
 ghost use Rattle.std.specs.Option.{option_map};
@@ -16,13 +16,13 @@ use crate::watch::{FirstFault, Watch};
 use broker_verdict::clause::{Class, Clause};
 
 impl Judge {
-    /// The number of the oldest call that was received and waits.
+    /// The number of the oldest call that waits.
     pub(crate) fn waiting_call(&self) -> Option<usize>
         ensures call { (P : PolicyValue) (S : ScriptValue) (K : List Event) → Stands P S K self.now → place_of_call K result ≡ left_waiting K }
         ensures some { (P : PolicyValue) (S : ScriptValue) (K : List Event) → Stands P S K self.now → is_some result ≡ is_some (left_waiting K) }
     {
         'rows: for number in 0..self.calls.rows.len() {
-            if self.calls.rows[number].is_waiting() {
+            if self.calls.rows[number].is_unanswered() {
                 return Some(number);
             }
         }
@@ -49,7 +49,7 @@ fn unanswered(place: usize, call: Option<usize>) -> Option<FirstFault>
 
 impl Watch {
     /// What is found first by so many events, of which the last didn't close the listener, where the broker does nothing more by
-    /// itself: what an event breaks, or that a call that was received and waits isn't answered, at the last event.
+    /// itself: what an event breaks, or that a call that waits isn't answered, at the last event.
     pub fn found_idle(&self, events: usize) -> Option<FirstFault>
         requires { 0 < events }
         ensures { (P : PolicyValue) (S : ScriptValue) (K : List Event) → Watches P S K self.now → length K ≡ events → is_closed K ≡ false

@@ -15,7 +15,7 @@ use crate::copy_reasons::{
 };
 use crate::judge::{Fault, Judge};
 use crate::other_request::push_other_request;
-use crate::policy_reasons::{push_spent, push_ungranted};
+use crate::policy_reasons::{push_spent, push_torn, push_ungranted};
 use crate::reasons::{Case, push_effect, push_event_at, push_event_line, push_plain};
 use audit_log::line::LineBuffer;
 use broker_verdict::clause::Clause;
@@ -118,6 +118,7 @@ fn push_reasons(line: &mut LineBuffer, case: &Case<'_>, clause: Clause) -> Resul
         Clause::OtherMemory => push_other_memory(line, case),
         Clause::StaleCopy => push_stale(line, case),
         Clause::Unchecked => push_unchecked(line, case),
+        Clause::Torn => push_torn(line, case),
         Clause::OtherBase => push_other_base(line, case),
         Clause::Ungranted => push_ungranted(line, case),
         Clause::Spent => push_spent(line, case),

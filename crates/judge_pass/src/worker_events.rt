@@ -3,13 +3,14 @@
 ghost use Rattle.sys_abi.specs.Errnos.{ebadf};
 ghost use Rattle.std.specs.Prelude.{◌≡◌, ◌&&◌, ◌==◌, ◌<◌, ◌≤◌, ◌+◌, ◌^◌, ◌∷◌, ℕ, List, true, false, Some, None, Ok, Err, OnOk, IfOk, IfSome, All, is_some, length, get_or, take};
 ghost use Rattle.broker_judge.specs.Reads.{worth_of};
-ghost use Rattle.broker_verdict.specs.Seats.{has_no_base as has_no_base_of, is_dirfd, confirmed, is_own_id as is_own_id_of, of_call, worth_now as worth_of_now};
+ghost use Rattle.broker_verdict.specs.Seats.{base_now as base_now_of, dirfd_of_call, has_no_base as has_no_base_of, is_base, is_dirfd, is_of_call as is_of_call_by, confirmed, is_own_id as is_own_id_of, of_call, worth_now as worth_of_now};
 ghost use Rattle.broker_verdict.specs.Trusted.{leaves_unanswered};
 ghost use Rattle.broker_verdict.specs.declared.clause.Clause.TheVariants.{Unanswered};
 ghost use Rattle.hist_model.specs.Look.{ev};
 ghost use Rattle.hist_model.specs.Requests.{base_dirfd};
 ghost use Rattle.hist_model.specs.Steps.{opened, session_call};
 ghost use Rattle.hist_model.specs.Tasks.{holder as holder_of};
+ghost use Rattle.hist_model.specs.Trees.{ordinal_of};
 ghost use Rattle.hist_model.specs.declared.event.Actor.TheVariants.{Worker};
 ghost use Rattle.hist_model.specs.declared.event.Event.{Event};
 ghost use Rattle.hist_model.specs.declared.event.What.TheVariants.{Check, LetGo, OpenBase, OpenMem, Read, Recv};
@@ -17,9 +18,9 @@ ghost use Rattle.hist_model.specs.declared.policy.Policy.{Policy as PolicyValue}
 ghost use Rattle.hist_model.specs.declared.script.Script.{Script as ScriptValue};
 ghost use Rattle.judge_pass.specs.declared.seats.Seat.{Seat as SeatValue};
 ghost use Rattle.sys_abi.specs.declared.wire.Notif.{Notif as NotifValue};
-ghost use Rattle.judge_pass.specs.Stands.{IsHistory, place_of_call, place_of_group, Stands};
+ghost use Rattle.judge_pass.specs.Stands.{IsCall, IsHistory, place_of_call, place_of_group, Stands};
 ghost use Rattle.judge_pass.specs.Takes.{acts_or_answers, HasFollowed, HasHolder, HolderIs, moves_alone, Takes};
-ghost use Rattle.judge_pass.specs.Within.{calls_kept, IsWithin, tasks_kept};
+ghost use Rattle.judge_pass.specs.Within.{calls_kept, IsCallWithin, IsWithin, tasks_kept};
 
 use crate::calls::Call;
 use crate::judge::Judge;
@@ -27,6 +28,7 @@ use crate::seats::Seat;
 use broker_judge::reads::{SeatRead, Worth};
 use emu_request::base_dirfd;
 use hist_model::event::What;
+use hist_model::request::NodeRef;
 use hist_model::script::Script;
 use hist_model::text::Text;
 use std::alloc::Global;
@@ -106,9 +108,10 @@ impl Judge {
                 self.answer_memory(worker, holder, answer);
                 Ok(())
             }
-            What::OpenBase { dirfd, answer, .. } => self.open_base(
-                script, worker, holder, *dirfd, answer,
-            ),
+            What::OpenBase { dirfd, answer, .. } => {
+                self.open_base(script, worker, holder, *dirfd, answer);
+                Ok(())
+            }
             What::Check { id, answer } => {
                 self.answer_check(worker, *id, answer);
                 Ok(())
@@ -208,7 +211,10 @@ impl Judge {
         requires holder { IfSome holder (λ o. o < tasks_kept self.old) }
         ensures { (pid : ℕ) → Takes self.old self.new (λ S K e. (e ≡ ev (Worker worker) (OpenMem pid (Ok tt))) × HasHolder K pid holder) }
     {
-        self.seats[worker].memory = self.group_of(holder);
+        let memory = self.group_of(holder);
+        let seat = &mut self.seats[worker];
+        seat.memory = memory;
+        seat.is_checked = false;
     }
 
     /// The group of a task.
@@ -256,42 +262,79 @@ impl Judge {
         holder: Option<u32>,
         dirfd: i32,
         answer: &Result<(), Errno>,
-    ) -> Result<(), NoMemory>
+    )
         requires within { IsWithin self.old }
         requires worker { worker < 17 }
         requires holder { IfSome holder (λ o. o < tasks_kept self.old) }
-        ensures { OnOk result ((pid : ℕ) → Takes self.old self.new (λ S K e. (S ≡ script.now) × (e ≡ ev (Worker worker) (OpenBase pid dirfd answer.now)) × HasHolder K pid holder)) }
+        ensures { (pid : ℕ) → Takes self.old self.new (λ S K e. (S ≡ script.now) × (e ≡ ev (Worker worker) (OpenBase pid dirfd answer.now)) × HasHolder K pid holder) }
     {
         match answer {
             Ok(()) => self.note_base(script, worker, holder, dirfd),
-            Err(errno) => {
-                self.note_refused(script, worker, dirfd, *errno);
-                Ok(())
-            }
+            Err(errno) => self.note_refused(script, worker, dirfd, *errno),
         }
     }
 
     /// A worker has opened a directory of the task that holds a PID.
-    fn note_base(
-        &mut self,
-        script: &Script,
-        worker: usize,
-        holder: Option<u32>,
-        dirfd: i32,
-    ) -> Result<(), NoMemory>
+    fn note_base(&mut self, script: &Script, worker: usize, holder: Option<u32>, dirfd: i32)
         requires within { IsWithin self.old }
         requires worker { worker < 17 }
         requires holder { IfSome holder (λ o. o < tasks_kept self.old) }
-        ensures { OnOk result ((pid : ℕ) → Takes self.old self.new (λ S K e. (S ≡ script.now) × (e ≡ ev (Worker worker) (OpenBase pid dirfd (Ok tt))) × HasHolder K pid holder)) }
+        ensures { (pid : ℕ) → Takes self.old self.new (λ S K e. (S ≡ script.now) × (e ≡ ev (Worker worker) (OpenBase pid dirfd (Ok tt))) × HasHolder K pid holder) }
     {
         if let Some(group) = self.group_of(holder) {
             let base = self.directories.named(script, group, dirfd);
-            let named = self.directories.copied(self.alloc)?;
+            let base_worth = self.base_now(script, worker, base);
             let seat = &mut self.seats[worker];
             seat.base = base;
-            seat.named = named;
+            seat.base_worth = base_worth;
         }
-        Ok(())
+    }
+
+    /// How far a directory can be relied on that is opened now: whether it is the one from which the paths of the call in hand go.
+    fn base_now(&self, script: &Script, worker: usize, base: Option<NodeRef>) -> Worth
+        requires within { IsWithin self.now }
+        requires worker { worker < 17 }
+        ensures { (P : PolicyValue) (K : List Event) → Stands P script.now K self.now
+            → worth_of result ≡ base_now_of script.now K (session_call K worker) (ordinal_of base) }
+    {
+        match self.call_of(&self.seats[worker]) {
+            Some(call) => self.base_for(script, call, base),
+            None => Worth::Foreign,
+        }
+    }
+
+    /// The same for this call.
+    fn base_for(&self, script: &Script, call: &Call, base: Option<NodeRef>) -> Worth
+        requires within { IsWithin self.now }
+        requires call { IsCallWithin self.now call.now }
+        ensures { (P : PolicyValue) (K : List Event) (n : ℕ) → Stands P script.now K self.now → IsCall script.now K n call.now
+            → worth_of result ≡ base_now_of script.now K (Some call.now.place) (ordinal_of base) }
+    {
+        if !self.is_of_call(script, call, base) {
+            Worth::Foreign
+        } else if call.is_listed {
+            Worth::Fresh
+        } else {
+            Worth::Stale
+        }
+    }
+
+    /// Whether a directory is the one from which the relative paths of a call go.
+    fn is_of_call(&self, script: &Script, call: &Call, base: Option<NodeRef>) -> bool
+        requires within { IsWithin self.now }
+        requires call { IsCallWithin self.now call.now }
+        ensures { (P : PolicyValue) (K : List Event) (n : ℕ) → Stands P script.now K self.now → IsCall script.now K n call.now
+            → result ≡ is_of_call_by script.now K call.now.place (dirfd_of_call K call.now.place) (ordinal_of base) }
+    {
+        match base_dirfd(call.called.nr, &call.called.args) {
+            Some(dirfd) => {
+                let named = self
+                    .directories
+                    .named(script, self.caller_group(call), dirfd);
+                is_node(base, named)
+            }
+            None => false,
+        }
     }
 
     /// A worker is answered that it can't open a directory.
@@ -369,6 +412,16 @@ impl Judge {
         let answer = copied(self.alloc, answer)?;
         self.seats[worker].read(place, group, SeatRead::new(addr, len, answer, worth))?;
         Ok(())
+    }
+}
+
+/// Whether two directories are one.
+fn is_node(base: Option<NodeRef>, named: Option<NodeRef>) -> bool
+    ensures { result ≡ is_base (ordinal_of base) (ordinal_of named) }
+{
+    match (base, named) {
+        (Some(base), Some(named)) => base.ordinal == named.ordinal,
+        _ => false,
     }
 }
 

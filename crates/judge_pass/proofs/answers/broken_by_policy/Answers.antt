@@ -7,9 +7,9 @@ use Rattle.judge_pass.proofs.InHand.{effect_known}
 use Rattle.judge_pass.proofs.answers.broken_by_policy.Goals as goal
 
 pub returns-in-Some : goal.returns-in-Some
-returns-in-Some c = λ S K w n id answer h seat is.
-    c.broken_with_effect.ensures c.args.policy.now S K w c.args.call.now.place id answer (effect_known S K w c.args.seat.now seat ∙ ap is_some c.in-Some.is)
+returns-in-Some c = λ S K w n id h seat is.
+    c.broken_with_effect.ensures c.args.policy.now S K w c.args.call.now.place id (effect_known S K w c.args.seat.now seat ∙ ap is_some c.in-Some.is)
 
 pub returns-in-None : goal.returns-in-None
-returns-in-None c = IfOk-weaker c.broken_without_effect.result _ _ (λ found e S K w n id answer h seat is.
-    e S K w n id answer h seat is (seat.effect_is ∙ ap (place_of_effect K) c.in-None.is)) c.broken_without_effect.ensures
+returns-in-None c = IfOk-weaker c.broken_without_effect.result _ _ (λ found e S K w n id h seat is.
+    e S K w n id h seat is (seat.effect_is ∙ ap (place_of_effect K) c.in-None.is)) c.broken_without_effect.ensures

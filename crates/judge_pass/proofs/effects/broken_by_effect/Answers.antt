@@ -1,5 +1,5 @@
 -- The clauses are those of an effect for the call in hand, or there is none.
-use Rattle.std.proofs.Common.{sym, ◌∙◌}
+use Rattle.std.proofs.Common.{reverse, sym, ◌∙◌}
 use Rattle.std.proofs.lemmas.Result.{IfOk-weaker}
 use Rattle.judge_pass.specs.Stands.{IsSeat}
 use Rattle.judge_pass.specs.Within.{IsSeatWithin}
@@ -15,7 +15,8 @@ broken_for_call-requires-clause-call c =
     hand_within j seat c.in-Some.call.now c.requires.within low (in_hand j seat c.in-Some.call.now c.in-Some.ensures)
 
 pub returns-in_default : goal.returns-in_default
-returns-in_default c = λ K h.
+returns-in_default c = λ h.
+    let K = reverse c.args.before.now in
     let j = c.args.judge.now in
     let seat = c.index-seat.result.now in
     let low : IsSeatWithin j seat = rw (← c.index-seat.ensures) at (c.requires.within.seats c.args.worker seat c.requires.worker) in
@@ -23,7 +24,8 @@ returns-in_default c = λ K h.
     sym (first_without_call c.args.policy.now c.args.script.now K c.args.worker c.args.what.now c.requires.effect (no_hand c.args.script.now K j c.args.worker seat is low c.in_default.ensures))
 
 pub returns : goal.returns
-returns c = IfOk-weaker c.broken_for_call.result _ _ (λ found e K h.
+returns c = IfOk-weaker c.broken_for_call.result _ _ (λ found e h.
+    let K = reverse c.args.before.now in
     let j = c.args.judge.now in
     let P = c.args.policy.now in
     let S = c.args.script.now in
@@ -31,6 +33,6 @@ returns c = IfOk-weaker c.broken_for_call.result _ _ (λ found e K h.
     let call = c.in-Some.call.now in
     let hand = in_hand j seat call c.in-Some.ensures in
     let is : IsSeat S K c.args.worker seat = rw (← c.index-seat.ensures) at (h.seats c.args.worker seat c.requires.worker) in
-    e K c.args.worker hand.number h is (call_kept P S K j c.args.worker seat call h is hand)
+    e c.args.worker hand.number h is (call_kept P S K j c.args.worker seat call h is hand)
     ∙ sym (first_of_effect P S K c.args.worker call.place c.args.what.now c.requires.effect (hand_is P S K j c.args.worker seat call h is hand)))
     c.broken_for_call.ensures

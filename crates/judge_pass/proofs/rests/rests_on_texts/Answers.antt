@@ -7,15 +7,15 @@ use Rattle.judge_pass.proofs.Rested.{fit, plan_known, unfit}
 use Rattle.judge_pass.proofs.rests.rests_on_texts.Goals as goal
 
 pub returns-then-not-can_have : goal.returns-then-not-can_have
-returns-then-not-can_have c = λ K w at cap answer is same.
+returns-then-not-can_have c = λ P K w at cap answer is same.
     let called = c.args.called.now in
     let same_nr : to_z w32 (of_z w32 called.nr) ≡ called.nr = search rules in
     let parts : c.of.result ≡ plan_of K at = plan_known K at called c.of.result is (c.of.ensures.parts ∙ ap (λ x. plan x called.args) same_nr) in
     let texts : c.as_slice.result.now ≡ texts_of c.args.request.now = c.as_slice.ensures.value ∙ c.in_ok-texts.ensures in
-    unfit K w at c.args.request.now cap answer (rw (parts, texts) at (sym c.if-not-can_have.ensures))
+    unfit P K w at c.args.request.now cap answer (rw (parts, texts) at (sym c.if-not-can_have.ensures))
 
 pub returns : goal.returns
-returns c = λ K w at cap answer is same.
+returns c = λ P K w at cap answer is same.
     let called = c.args.called.now in
     let same_nr : to_z w32 (of_z w32 called.nr) ≡ called.nr = search rules in
     let parts : c.of.result ≡ plan_of K at = plan_known K at called c.of.result is (c.of.ensures.parts ∙ ap (λ x. plan x called.args) same_nr) in
@@ -23,5 +23,5 @@ returns c = λ K w at cap answer is same.
     let texts : c.as_slice.result.now ≡ texts_of c.args.request.now = c.as_slice.ensures.value ∙ c.in_ok-texts.ensures in
     let texts2 : c.as_slice-3.result.now ≡ texts_of c.args.request.now = c.as_slice-3.ensures.value ∙ c.in_ok-texts.ensures in
     let all : c.as_slice-2.result.now ≡ c.args.seat.now.reads.items = c.as_slice-2.ensures.value in
-    fit K w at c.args.request.now cap answer c.args.seat.now.reads.items c.in_ok-rank.rank same (rw (parts, texts) at (sym c.if-not-can_have.ensures))
+    fit P K w at c.args.request.now cap answer c.args.seat.now.reads.items c.in_ok-rank.rank same (rw (parts, texts) at (sym c.if-not-can_have.ensures))
     (λ least. rw (← all, ← parts2, ← texts2) (c.in_ok-rank.ensures least))

@@ -1,6 +1,6 @@
 -- What is left of both decides.
 use Rattle.std.proofs.Common.{◌≡◌, length}
-use Rattle.broker_verdict.specs.Answers.{texts_eq}
+use Rattle.broker_verdict.specs.Effects.{texts_eq}
 use Rattle.judge_pass.proofs.told.are_equal.Given as goal
 
 abbrev pub invariant-loop-text : goal.invariant-loop-text

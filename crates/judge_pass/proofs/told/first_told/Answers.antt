@@ -14,19 +14,19 @@ loop-effect-preserved c =
     record {
       low = low.1;
       own = λ at all. (rw first at (c.loop-effect.invariant.own at all)).1;
-      found = λ P S w at h c_is all_is own.
+      found = λ P S w at h c_is all_is start own.
           let for : effect_is_for K at c.in-Some.effect.now ≡ true = (rw first at (c.loop-effect.invariant.own at own)).0 in
           passed_over (can_be_told K w at) c.loop-effect.rest.now c.in-Some.later.now c.in-Some.effect.now _ first
-          (sym (c.in_ok-can_be_told.ensures P S w at h c_is all_is for) ∙ c.if-branch.false) (c.loop-effect.invariant.found P S w at h c_is all_is own);
+          (sym (c.in_ok-can_be_told.ensures P S w at h c_is all_is start for) ∙ c.if-branch.false) (c.loop-effect.invariant.found P S w at h c_is all_is start own);
     }
 
 pub returns-then-branch-clause-first : goal.returns-then-branch-clause-first
-returns-then-branch-clause-first c = λ P S w at h c_is all_is own.
+returns-then-branch-clause-first c = λ P S w at h c_is all_is start own.
     let K = reverse c.args.before.now in
     let first = c.in-Some.ensures.cases.0 in
     let for : effect_is_for K at c.in-Some.effect.now ≡ true = (rw first at (c.loop-effect.invariant.own at own)).0 in
     found_first (can_be_told K w at) c.loop-effect.rest.now c.in-Some.later.now c.in-Some.effect.now _ first
-    (sym (c.in_ok-can_be_told.ensures P S w at h c_is all_is for) ∙ c.if-branch.true) (c.loop-effect.invariant.found P S w at h c_is all_is own)
+    (sym (c.in_ok-can_be_told.ensures P S w at h c_is all_is start for) ∙ c.if-branch.true) (c.loop-effect.invariant.found P S w at h c_is all_is start own)
 
 pub returns-then-branch-clause-kept : goal.returns-then-branch-clause-kept
 returns-then-branch-clause-kept c =
@@ -34,6 +34,6 @@ returns-then-branch-clause-kept c =
     low.0
 
 pub returns-clause-first : goal.returns-clause-first
-returns-clause-first c = λ P S w at h c_is all_is own.
+returns-clause-first c = λ P S w at h c_is all_is start own.
     let K = reverse c.args.before.now in
-    none_left (can_be_told K w at) c.loop-effect.rest.now _ c.in_default.ensures.cases (c.loop-effect.invariant.found P S w at h c_is all_is own)
+    none_left (can_be_told K w at) c.loop-effect.rest.now _ c.in_default.ensures.cases (c.loop-effect.invariant.found P S w at h c_is all_is start own)

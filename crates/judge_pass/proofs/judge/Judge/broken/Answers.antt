@@ -7,9 +7,6 @@ use Rattle.hist_model.specs.declared.event.What.{What}
 use Rattle.judge_pass.proofs.Judging.{first_done, nothing-done, other-kind}
 use Rattle.judge_pass.proofs.judge.Judge.broken.Goals as goal
 
-pub returns-then-is_effect : goal.returns-then-is_effect
-returns-then-is_effect c = IfOk-weaker c.broken_by_effect.result _ _ (λ found h s. h (reverse c.args.before.now) s) c.broken_by_effect.ensures
-
 pub returns-in-Send : goal.returns-in-Send
 returns-in-Send c = IfOk-weaker c.broken_by_answer.result _ _ (λ found h s.
     let P = c.args.policy.now in

@@ -18,7 +18,7 @@ returns-in_ok-fault-in-Some c = λ s history holder.
     let fault = c.in_ok-fault-in-Some.fault in
     subst (λ (n : ℕ). Judges P S K (ev (Worker n) c.args.what.now) (Some fault) j) c.from-worker.ensures
     (judges-broken P S K j w c.args.what.now c.in-Some.clause fault (sym c.in-Some.is ∙ c.in_ok-broken.ensures s) c.in_ok-fault-in-Some.ensures.clause
-    (c.in_ok-fault-in-Some.ensures.class K s) (c.in_ok-fault-in-Some.ensures.call K s) s)
+    (c.in_ok-fault-in-Some.ensures.class s) (c.in_ok-fault-in-Some.ensures.call K s) s)
 
 pub returns-in-None : goal.returns-in-None
 returns-in-None c = IfOk-weaker c.take_step.result _ _ (λ found h s history holder.

@@ -9,11 +9,10 @@ returns-in-OpenMem c P S K e s history kind =
     c.answer_memory.ensures c.in-OpenMem.pid P S K e s history (k.1, k.3)
 
 pub returns-in-OpenBase : goal.returns-in-OpenBase
-returns-in-OpenBase c =
+returns-in-OpenBase c P S K e s history kind =
     let same : to_z w32 (of_z w32 c.in-OpenBase.dirfd) ≡ c.in-OpenBase.dirfd = search rules in
-    on-ok c.open_base.result _ _ (λ f P S K e s history kind.
     let k = rw c.in-OpenBase.is at kind in
-    f c.in-OpenBase.pid P S K e s history (k.0, rw same k.1, k.3)) c.open_base.ensures
+    c.open_base.ensures c.in-OpenBase.pid P S K e s history (k.0, rw same k.1, k.3)
 
 pub returns-in-Check : goal.returns-in-Check
 returns-in-Check c P S K e s history kind =

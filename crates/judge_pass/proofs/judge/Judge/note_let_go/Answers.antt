@@ -8,7 +8,7 @@ pub returns-clause-stands : goal.returns-clause-stands
 returns-clause-stands c P S K e s history kind =
     as-event P S K e _ kind.0 history _ (λ h.
     let-go P S K c.args.worker c.args.self.now s c.requires.worker c.index_mut.result.now c.index_mut.ensures.value h c.let_go.new.self
-    (rw kind.1 c.let_go.ensures.begun) c.let_go.ensures.memory c.let_go.ensures.base c.let_go.ensures.named)
+    (rw kind.1 c.let_go.ensures.begun) c.let_go.ensures.memory c.let_go.ensures.base)
 
 pub returns-clause-within : goal.returns-clause-within
 returns-clause-within c =

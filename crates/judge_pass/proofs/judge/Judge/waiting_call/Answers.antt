@@ -4,13 +4,13 @@ use Rattle.std.specs.Prelude.{is_some}
 use Rattle.judge_pass.proofs.WaitingRows.{first_waits, none_waits, some_waits}
 use Rattle.judge_pass.proofs.judge.Judge.waiting_call.Goals as goal
 
-pub returns-then-is_waiting-clause-call : goal.returns-then-is_waiting-clause-call
-returns-then-is_waiting-clause-call c P S K stands =
-    first_waits P S K c.args.self.now c.rows.number c.index.result.now stands (omega arith) c.index.ensures (sym c.is_waiting.ensures ∙ c.if-is_waiting.true) c.rows.invariant
+pub returns-then-is_unanswered-clause-call : goal.returns-then-is_unanswered-clause-call
+returns-then-is_unanswered-clause-call c P S K stands =
+    first_waits P S K c.args.self.now c.rows.number c.index.result.now stands (omega arith) c.index.ensures (sym c.is_unanswered.ensures ∙ c.if-is_unanswered.true) c.rows.invariant
 
-pub returns-then-is_waiting-clause-some : goal.returns-then-is_waiting-clause-some
-returns-then-is_waiting-clause-some c P S K stands =
-    sym (some_waits P S K c.args.self.now c.rows.number c.index.result.now stands (omega arith) (returns-then-is_waiting-clause-call c P S K stands))
+pub returns-then-is_unanswered-clause-some : goal.returns-then-is_unanswered-clause-some
+returns-then-is_unanswered-clause-some c P S K stands =
+    sym (some_waits P S K c.args.self.now c.rows.number c.index.result.now stands (omega arith) (returns-then-is_unanswered-clause-call c P S K stands))
 
 pub returns-clause-call : goal.returns-clause-call
 returns-clause-call c P S K stands = sym (none_waits P S K c.args.self.now c.rows.number stands (omega arith) c.rows.invariant)

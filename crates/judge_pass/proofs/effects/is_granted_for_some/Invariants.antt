@@ -5,7 +5,7 @@ use Rattle.broker_judge.specs.Called.{IsCalled}
 use Rattle.broker_verdict.specs.Choices.{decided}
 use Rattle.broker_verdict.specs.Effects.{grants_just}
 use Rattle.hist_model.specs.declared.event.Event.{Event}
-use Rattle.judge_pass.proofs.effects.is_granted.Given as goal
+use Rattle.judge_pass.proofs.effects.is_granted_for_some.Given as goal
 
 abbrev pub invariant-loop-texts : goal.invariant-loop-texts
 invariant-loop-texts l = (K : List Event) (c : ℕ) → IsCalled K c l.call.called
