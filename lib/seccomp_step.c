@@ -168,14 +168,16 @@ static int broken(struct sb_kernel *kernel, int error) {
   return error;
 }
 
-/* A write to a pipe that raises no SIGPIPE: where the program has ended, the signal that comes of the write alone is taken back. */
-static ssize_t write_quietly(int pipe, const void *bytes, size_t count) {
+/* A write that raises no SIGPIPE: where the program behind a pipe has ended, the signal that comes of the write alone is taken back. */
+static ssize_t write_quietly(const struct sb_kernel *kernel, const void *bytes, size_t count) {
+  if (kernel->program == 0)
+    return send(kernel->requests, bytes, count, MSG_NOSIGNAL);
   sigset_t of_pipes, before, pending;
   sigemptyset(&of_pipes);
   sigaddset(&of_pipes, SIGPIPE);
   sigpending(&pending);
   pthread_sigmask(SIG_BLOCK, &of_pipes, &before);
-  ssize_t written = write(pipe, bytes, count);
+  ssize_t written = write(kernel->requests, bytes, count);
   int error = errno;
   if (written < 0 && error == EPIPE && !sigismember(&pending, SIGPIPE))
     while (sigtimedwait(&of_pipes, NULL, &(struct timespec){0, 0}) < 0 && errno == EINTR)
@@ -187,7 +189,7 @@ static ssize_t write_quietly(int pipe, const void *bytes, size_t count) {
 
 static int write_whole(struct sb_kernel *kernel) {
   for (size_t at = 0; at < kernel->request.used;) {
-    ssize_t count = write_quietly(kernel->requests, kernel->request.bytes + at, kernel->request.used - at);
+    ssize_t count = write_quietly(kernel, kernel->request.bytes + at, kernel->request.used - at);
     if (count < 0 && errno != EINTR)
       return broken(kernel, -EPIPE);
     at += count > 0 ? (size_t)count : 0;

@@ -1,22 +1,26 @@
 """The command explore-broker: its words, and how it ends."""
 import os
 import sys
-import tempfile
 from functools import lru_cache
 
 from command_line import place
 from exploring import telling
+from exploring.bounds import Bounds, is_sanitized
 from exploring.exploration import Explored, explore
-from exploring.instances import Door, ProcessInstance, Shim
-from exploring.passing import Listening
-from exploring.preloading import why_not
+from exploring.instances import Door, ProcessInstance
+from exploring.passing import Listening, is_served
+from exploring.preloading import program_of, why_not
 from exploring.runs import SEATS, Files, Setting
-from judging.command import Ended, Words, read_files
+from exploring.shims import Shim
+from judging.command import USAGE, Ended, Words, bytes_of, read_files
+from messages import likely
+from messages.findings import Text, message
+from watched import watched
 
 FOUND, UNDECIDED, WRITE_FAULT, INTERRUPTED = 11, 12, 6, 130
-NO_PROGRAM = 7
+NO_PROGRAM, STANDARD_INPUT = 7, "-"
 MOST_DELAYS, MOST_JOBS, MOST_PATIENCE = 8, 64, 86_400
-PATIENCE = 10
+MOST_CALLS, MOST_MIB, MOST_DESCRIPTOR = 10**9, 1 << 20, 1_023
 UNGUARDED = "explore-broker: without --shim the broker's own calls reach this machine; only its client's are answered"
 
 
@@ -31,6 +35,26 @@ def number(least, most):
     return read
 
 
+def descriptor(text):
+    """Reads `N=PATH`: the script's descriptor N is what the broker has open at PATH."""
+    number_of_it, equals, path = text.partition("=")
+    if not equals or not path.startswith("/") or "\n" in path or not 0 <= int(number_of_it) <= MOST_DESCRIPTOR:
+        raise ValueError(text)
+    return int(number_of_it), path
+
+
+def folder(text):
+    """Reads a folder, as the machine finds it."""
+    found = os.path.realpath(text)
+    if not os.path.isdir(found) or ":" in found:
+        raise ValueError(text)
+    return found
+
+
+# what stands only beside --shim
+OF_SHIM = ("same_root", "writable", "broker_fd", "unguarded")
+
+
 def words_of(words):
     """The words up to `--`, read, and the command behind it."""
     parser = Words("explore-broker", " -- COMMAND [WORD ..]")
@@ -40,10 +64,16 @@ def words_of(words):
     parser.add_argument("--instances", metavar="N", type=number(1, SEATS), default=1)
     parser.add_argument("--limit", metavar="RUNS", type=number(1, 10**9))
     parser.add_argument("--jobs", metavar="N", type=number(1, MOST_JOBS), default=min(os.cpu_count() or 1, MOST_JOBS))
-    parser.add_argument("--patience", metavar="SECONDS", type=number(1, MOST_PATIENCE), default=PATIENCE)
+    parser.add_argument("--patience", metavar="SECONDS", type=number(1, MOST_PATIENCE), default=Bounds().patience)
+    parser.add_argument("--most-calls", metavar="N", type=number(1, MOST_CALLS), default=Bounds().calls)
+    parser.add_argument("--most-output", metavar="MIB", type=number(1, MOST_MIB), default=Bounds().output)
+    parser.add_argument("--most-memory", metavar="MIB", type=number(0, MOST_MIB))
     parser.add_argument("--save", metavar="FOLDER")
     parser.add_argument("--shim", metavar="FILE", type=os.path.abspath)
     parser.add_argument("--same-root", action="store_true")
+    parser.add_argument("--writable", metavar="FOLDER", type=folder, action="append", default=[])
+    parser.add_argument("--broker-fd", metavar="N=PATH", type=descriptor, action="append", default=[])
+    parser.add_argument("--unguarded", action="store_true")
     parser.add_argument("--listener-path", metavar="SOCKET")
     parser.add_argument("--listener-metadata", metavar="TEXT", default="")
     parser.add_argument("--program", metavar="PATH")
@@ -53,8 +83,9 @@ def words_of(words):
     asked.command = words[at + 1:]
     if not asked.command:
         parser.error("after `--` comes the command that starts the broker")
-    if asked.same_root and asked.shim is None:
-        parser.error("--same-root is for a broker as it is, with --shim")
+    for name in OF_SHIM:
+        if getattr(asked, name) and asked.shim is None:
+            parser.error(f"--{name.replace('_', '-')} is for a broker as it is, with --shim")
     if asked.listener_path is not None and not any(asked.listener_path in word for word in asked.command):
         # (all would wait at the same one)
         if asked.instances > 1:
@@ -90,6 +121,22 @@ def test_command(asked):
         raise Ended(UNDECIDED, f"explore-broker: --shim: {wrong}")
 
 
+def shim_of(asked, files, sanitized):
+    """How the library answers the broker. Raises Ended."""
+    unknown = [number_of_it for number_of_it, _ in asked.broker_fd if number_of_it not in files.container.broker]
+    if unknown:
+        raise Ended(USAGE, f"explore-broker: --broker-fd: the script has no line `broker {unknown[0]}`")
+    at_paths = dict(asked.broker_fd)
+    descriptors = [f"{it}={at_paths[it]}" if it in at_paths else str(it) for it in sorted(files.container.broker)]
+    return Shim(asked.shim, asked.same_root, tuple(asked.writable), tuple(descriptors), asked.unguarded, sanitized)
+
+
+def test_listening(asked):
+    """Refuses a place at which somebody waits for a listener already. Raises Ended."""
+    if asked.listener_path is not None and is_served(asked.listener_path):
+        raise Ended(UNDECIDED, f"explore-broker: --listener-path: somebody listens at {asked.listener_path} already: end that, or name another path")
+
+
 def setting_of(asked, room):
     """What all runs have in common. Raises Ended."""
     files = Files(asked.policy, asked.script, *read_files(asked.policy, asked.script))
@@ -99,7 +146,10 @@ def setting_of(asked, room):
         if program is None:
             raise Ended(NO_PROGRAM, "explore-broker: there is no program; --no-program asks the kernel in Python alone")
 
-    shim = Shim(asked.shim, asked.same_root) if asked.shim is not None else None
+    sanitized = is_sanitized(program_of(asked.command) or "")
+    memory = asked.most_memory if asked.most_memory is not None else 0 if sanitized else Bounds().memory
+    bounds = Bounds(asked.patience, asked.most_calls, asked.most_output, memory)
+    shim = shim_of(asked, files, sanitized) if asked.shim is not None else None
     passing = Listening(asked.listener_path, asked.listener_metadata, files.container.pidbase + 1) if asked.listener_path is not None else None
 
     @lru_cache(maxsize=None)
@@ -107,39 +157,61 @@ def setting_of(asked, room):
         return Door(f"{room}/{process}-{at}")
 
     def make():
-        return [ProcessInstance(asked.command, door(os.getpid(), at), asked.patience, shim, passing) for at in range(asked.instances)]
+        return [ProcessInstance(asked.command, door(os.getpid(), at), bounds, shim, passing) for at in range(asked.instances)]
 
-    return Setting(files, make, program)
+    return Setting(files, make, program, bounds)
 
 
 def status_of(explored):
     return FOUND if explored.has_found else 0 if explored.is_decided else UNDECIDED
 
 
-def run(words):
-    asked, progress = words_of(words), Progress()
-    test_command(asked)
-    with tempfile.TemporaryDirectory(prefix="explore-broker-") as room:
-        setting, status = setting_of(asked, room), None
-        try:
-            explored = explore(setting, asked.delays, asked.limit, asked.jobs, progress.tell)
-        except KeyboardInterrupt:
-            explored, status = progress.explored or Explored(asked.delays), INTERRUPTED
-            explored.is_whole = False
-        progress.clear()
-        sys.stdout.buffer.write(telling.whole_text(explored).encode("utf-8", "backslashreplace"))
-        sys.stdout.flush()
-        if asked.save is not None:
-            telling.save(asked.save, explored)
+def run(asked, room):
+    """Explores, with a folder for what it makes: the status. Raises Ended and OSError."""
+    progress, status = Progress(), None
+    setting = setting_of(asked, room)
+    try:
+        explored = explore(setting, asked.delays, asked.limit, asked.jobs, progress.tell)
+    except KeyboardInterrupt:
+        explored, status = progress.explored or Explored(asked.delays), INTERRUPTED
+        explored.is_whole = False
+    progress.clear()
+    sys.stdout.buffer.write(telling.whole_text(explored).encode("utf-8", "backslashreplace"))
+    sys.stdout.flush()
+    if asked.save is not None:
+        telling.save(asked.save, explored)
     return status_of(explored) if status is None else status
 
 
-def main(words):
+def told(action, *arguments):
+    """The status of something, whose failure is told on standard error."""
     try:
-        return run(words)
+        return action(*arguments)
     except Ended as ended:
         print(ended.args[1], file=sys.stderr)
         return ended.args[0]
     except OSError as error:
         print(f"explore-broker: {error}", file=sys.stderr)
         return WRITE_FAULT
+
+
+def lint(script):
+    """Tells what is likely a mistake in the script, with its cure. Raises Ended."""
+    data = bytes_of(script, "script")
+    for found in likely.findings(Text(data), likely.EXPLORE_BROKER):
+        print("\n".join(message(found, script, Text(data), f"{found.name}: ")), file=sys.stderr)
+
+
+def begin(words):
+    asked = words_of(words)
+    if STANDARD_INPUT not in (asked.policy, asked.script):
+        # (what isn't understood is refused first)
+        read_files(asked.policy, asked.script)
+        lint(asked.script)
+    test_command(asked)
+    test_listening(asked)
+    watched(lambda room: told(run, asked, room), "explore-broker-")
+
+
+def main(words):
+    return told(begin, words)

@@ -17,7 +17,7 @@ AT_ONCE = 8
 # after how many objects it is looked for those that nobody holds
 GARBAGE = 50_000
 # these leave open what else there is
-UNDECIDED = {Kind.HANGS, Kind.UNLIKE, Kind.NOT_SUPPORTED, Kind.KERNELS_DIFFER, Kind.JUDGES_DIFFER}
+UNDECIDED = {Kind.HANGS, Kind.UNLIKE, Kind.NOT_SUPPORTED, Kind.TOO_MUCH, Kind.KERNELS_DIFFER, Kind.JUDGES_DIFFER}
 
 
 @dataclass

@@ -6,6 +6,7 @@ foreseen of a broker that differs even then, or has threads.
 """
 from typing import Callable, Dict, NamedTuple, Optional
 
+from exploring.bounds import TooMuch
 from exploring.instances import CLOSED, Hangs, NotSupported, ProcessInstance
 
 DIGITS = b"0123456789"
@@ -107,6 +108,9 @@ class Foreseen:
             self.answered.append(Answered(self.place.request, answer))
         self.place = self.foresight.behind(self.place, answer)
 
+    def goes_on(self, thread):
+        return self.is_seen and self.instance.goes_on(thread)
+
     def begin(self, *more):
         """Starts it, with all of its answers, and more ones. Raises NotSupported."""
         self.foresight.before_start()
@@ -118,7 +122,7 @@ class Foreseen:
         try:
             if not self.makes_all():
                 raise Foretold
-        except (Hangs, NotSupported):
+        except (Hangs, NotSupported, TooMuch):
             raise Foretold from None
         self.is_seen = True
 

@@ -14,20 +14,17 @@ from functools import lru_cache
 from itertools import accumulate
 from typing import List, NamedTuple
 
+from exploring.bounds import Bounds
 from exploring.passing import Passing
 from exploring.processes import Started, anonymous_file, has_ended_within, has_gone, is_at_rest, peer_of
+from exploring.shims import NO_MEMORY, UNSUPPORTED, UNSUPPORTED_LINE, RunFolder
 
-# how long a command has to connect, and to end when the listener is closed, in seconds
-START, LEAVE = 60, 2
+# how long a command has to end when the listener is closed, in seconds
+LEAVE = 2
 CLOSED = b"refused closed\n"
 # how often an instance may ask for more behind the close
 MOST_REFUSALS = 1_000
 MOST_OUTPUT = 65_536
-# the number that a broker as it is has for the listener, where that isn't passed to it
-LISTENER = 100
-# the status by which lib/shim.c says that a broker can't be tried, and its line
-UNSUPPORTED = 125
-UNSUPPORTED_LINE = b"shim: not supported: "
 POLL = 0.01
 PART = 65_536
 TIME = struct.Struct("ll")
@@ -35,6 +32,10 @@ TIME = struct.Struct("ll")
 MOST_FORETOLD = 32_768
 # how many threads may connect at once, what they are told, and how long several threads are listened to before it is looked whether they rest, in seconds
 BACKLOG, ABLE, OPENED, PAUSE = 128, b"able", b"able\n", 0.0005
+# what the library asks so that its next so many calls are made in one turn
+HOLD = b"hold "
+# a broker that was heard in the last part of its time, of so many, takes too long, and doesn't hang
+PARTS = 10
 
 
 class Hangs(Exception):
@@ -127,6 +128,9 @@ class InlineInstance:
     def reply(self, thread, answer):
         self.told = answer
 
+    def goes_on(self, thread):
+        return False
+
     def stop(self):
         pass
 
@@ -137,6 +141,8 @@ class Connection:
     def __init__(self, socket_of_it):
         self.socket, self.number, self.received = socket_of_it, socket_of_it.fileno(), b""
         self.is_open, self.is_asking = True, False
+        # how many calls, the next one among them, are made in one turn
+        self.held = 0
 
     def set_patience(self, seconds):
         """How long it waits for a call, and for an answer to be taken."""
@@ -160,12 +166,17 @@ class Connection:
         """The next call, once it is whole; else None."""
         if b"\n" not in self.received or self.is_asking:
             return None
-        self.is_asking = True
         line, _, self.received = self.received.partition(b"\n")
+        if line.startswith(HOLD):
+            self.held = int(line[len(HOLD):])
+            self.send(line + b"\n")
+            return self.next_call()
+        self.is_asking = True
         return line
 
     def reply(self, answer):
         self.is_asking = False
+        self.held = max(self.held - 1, 0)
         self.send(answer)
 
     def send(self, answer):
@@ -182,13 +193,14 @@ class Connection:
 
 
 class Door:
-    """A socket at which one instance after another connects."""
+    """A socket at which one instance after another connects, and the folder that each of them has."""
 
     def __init__(self, path):
         self.path = path
         self.server = socket.socket(socket.AF_UNIX)
         self.server.bind(path)
         self.server.listen(BACKLOG)
+        self.folder = RunFolder(path)
 
     def clear(self):
         """Lets go of what has connected to no avail."""
@@ -196,27 +208,11 @@ class Door:
             self.server.accept()[0].close()
 
 
-class Shim(NamedTuple):
-    """The library that is preloaded into a broker as it is, and whether that shares the container's root."""
-
-    file: str
-    has_same_root: bool
-
-    def variables(self, is_passed):
-        """The variables of its environment; `is_passed` says whether the listener is passed to it."""
-        found = {"LD_PRELOAD": self.file}
-        if not is_passed:
-            found["SECCOMP_BROKER_LISTENER"] = str(LISTENER)
-        if self.has_same_root:
-            found["SECCOMP_BROKER_SAME_ROOT"] = "1"
-        return found
-
-
 @lru_cache(maxsize=None)
-def environment_of(path, shim, is_passed):
-    """The environment of a command that connects to a path."""
+def environment_of(door, shim, passed):
+    """The environment of a command that connects at a door; `passed` is where it waits for the listener, or None."""
     # (the runs would write the file of a session one over another)
-    variables = {"SECCOMP_BROKER_KERNEL": path, "SECCOMP_BROKER_SESSION": "", **(shim.variables(is_passed) if shim is not None else {})}
+    variables = {"SECCOMP_BROKER_KERNEL": door.path, "SECCOMP_BROKER_SESSION": "", **(shim.variables(door.folder, passed) if shim is not None else {})}
     return {**os.environb, **{os.fsencode(name): os.fsencode(value) for name, value in variables.items()}}
 
 
@@ -245,15 +241,17 @@ class Thread(Connection):
 class ProcessInstance:
     """A command that is started with a socket to the kernel in SECCOMP_BROKER_KERNEL."""
 
-    def __init__(self, command, door, patience, shim=None, passing=None):
-        """`door` is where it connects. `patience` is how long it may do something without a call of the kernel, in seconds. `shim` is the library that is preloaded into a broker as it is, and has the
-        listener. `passing` says how the listener is passed to it, if it is."""
-        self.door, self.server, self.patience = door, door.server, patience
+    def __init__(self, command, door, bounds=Bounds(), shim=None, passing=None):
+        """`door` is where it connects. `bounds` says how much it may take. `shim` is the library that is preloaded into a broker as it is, and has the listener. `passing` says how the listener is passed to
+        it, if it is."""
+        self.door, self.server, self.bounds = door, door.server, bounds
+        # when its time is over, and when it was heard last
+        self.until = self.heard = 0.0
         self.passing, self.command = None, command
         if passing is not None:
-            self.passing = Passing(passing, f"{door.path}-agent", command)
+            self.passing = Passing(passing, f"{door.folder.path}/agent", command)
             self.command = self.passing.command
-        self.environment = environment_of(door.path, shim, passing is not None)
+        self.environment = environment_of(door, shim, self.passing.path if self.passing is not None else None)
         # (only what is preloaded connects for each thread)
         self.has_threads = shim is not None
         self.watched = select.poll()
@@ -263,36 +261,59 @@ class ProcessInstance:
         self.process, self.broker, self.status = None, None, None
         # the answers that are sent before its calls, and how many of these it hasn't made yet
         self.foretold, self.advance = [], 0
-        # whether it is told of the close, and wasn't listened to since
-        self.is_told = False
+        # whether it is told of the close; and whether it is, and wasn't listened to since
+        self.is_closed = self.is_told = False
         self.written, self.output = anonymous_file("output"), b""
 
     # ---- its start
 
     def start(self):
         """Starts the command, in a session of its own, so that all that it starts can be ended with it."""
+        if self.has_threads:
+            self.door.folder.clear()
         if self.passing is not None:
             self.passing.begin()
         try:
             self.process = Started(self.command, self.environment, self.written)
         except OSError as error:
             raise NotSupported(f"{self.command[0]} can't be started: {error.strerror}") from None
+        self.bounds.set_for(self.process.pid)
+        self.until = time.monotonic() + self.bounds.patience
         if self.passing is not None:
             self.pass_listener()
 
     def pass_listener(self):
-        """Passes the listener to the command, once it waits for it."""
+        """Passes the listener to the command, once it waits for it. Threads that it makes before begin."""
         try:
-            if self.is_reached(self.passing.try_to_pass):
+            if self.is_reached(self.has_passed):
                 return
         except Hangs:
             raise NotSupported(f"nobody waits for the listener at {self.passing.path}") from None
+        self.test_support(self.process.returncode)
         raise NotSupported(f"it has ended with status {self.process.returncode}, and hasn't waited for the listener at {self.passing.path}")
+
+    def has_passed(self):
+        if self.has_threads:
+            self.hear_before()
+        return self.passing.try_to_pass()
+
+    def hear_before(self):
+        """Answers what threads ask when they are made, as long as there is no listener: nothing else is asked by then."""
+        if not self.connections:
+            self.has_connected(0)
+        elif self.has_heard(0):
+            for it in self.connections[1:]:
+                it.next_call()
+            while self.begin_thread():
+                pass
+        first = self.connections[0] if self.connections else None
+        if first is not None and not first.is_asking and first.received.startswith(OPENED):
+            first.next_call()
+            first.reply(OPENED)
 
     def is_reached(self, attempt):
         """Tries something until it comes about; whether it did before the command ended. Raises Hangs."""
-        until = time.monotonic() + max(START, self.patience)
-        while time.monotonic() < until:
+        while time.monotonic() < self.until:
             if attempt():
                 return True
             if self.process.poll() is not None:
@@ -322,7 +343,7 @@ class ProcessInstance:
     def accept(self, kind):
         connection = kind(self.server.accept()[0])
         # (it is read where something has come, and so waits for nothing else than that an answer is taken)
-        connection.set_patience(self.patience)
+        connection.set_patience(self.bounds.patience)
         self.connections.append(connection)
         self.watched.register(connection.socket, select.POLLIN)
         return connection
@@ -336,9 +357,9 @@ class ProcessInstance:
             raise NotSupported(f"it has ended with status {self.process.returncode}, and hasn't connected to the socket that SECCOMP_BROKER_KERNEL names")
 
     def wait(self):
-        """The calls that have come by the time that all its threads wait, or None where it has ended. Raises Hangs and NotSupported."""
+        """The calls that have come by the time that all its threads wait, or None where it has ended. Raises Hangs, TooMuch and NotSupported."""
         self.connect()
-        until, calls = time.monotonic() + self.patience, []
+        calls = []
         while True:
             calls += [(number, line) for number, it in enumerate(self.connections) for line in [it.next_call()] if line is not None]
             if not any(it.is_open for it in self.connections):
@@ -349,16 +370,26 @@ class ProcessInstance:
             if len(self.connections) > 1 and is_at_rest(self.broker):
                 if not self.has_heard(0) and not self.begin_thread():
                     return calls
-            elif not self.has_heard(until) and time.monotonic() >= until:
-                raise Hangs
+            elif not self.has_heard(self.until):
+                self.test_time()
+
+    def test_time(self):
+        """Raises Hangs or TooMuch where its time is over."""
+        now = time.monotonic()
+        if now < self.until:
+            return
+        self.bounds.test_output(self.written)
+        if now - self.heard < self.bounds.patience / PARTS and not self.is_closed:
+            raise self.bounds.too_much_time()
+        raise Hangs
 
     def makes(self, requests):
         """Whether these are the next calls of its only thread, of which the answers are foretold. Raises Hangs and NotSupported."""
         self.connect()
-        until, wanted, connection = time.monotonic() + self.patience, b"".join([request + b"\n" for request in requests]), self.connections[0]
+        wanted, connection = b"".join([request + b"\n" for request in requests]), self.connections[0]
         while len(connection.received) < len(wanted) and connection.is_open:
-            if not self.has_heard(until) and time.monotonic() >= until:
-                raise Hangs
+            if not self.has_heard(self.until):
+                self.test_time()
         if len(self.connections) > 1 or not connection.received.startswith(wanted):
             return False
         connection.received = connection.received[len(wanted):]
@@ -368,7 +399,7 @@ class ProcessInstance:
     def has_heard(self, until):
         """Takes what has come, for which a single thread has until some time, and several ones have a short while; whether anything has."""
         if not self.has_threads:
-            return self.connections[0].receive()
+            return self.note_heard(self.connections[0].receive())
         pause = PAUSE if len(self.connections) > 1 else max(until - time.monotonic(), 0)
         ready = self.watched.poll(1000 * pause if until else 0)
         for fd, _ in ready:
@@ -379,7 +410,12 @@ class ProcessInstance:
             connection.receive()
             if not connection.is_open:
                 self.watched.unregister(fd)
-        return bool(ready)
+        return self.note_heard(bool(ready))
+
+    def note_heard(self, is_heard):
+        if is_heard:
+            self.heard = time.monotonic()
+        return is_heard
 
     def begin_thread(self):
         """Lets the first of the threads begin that wait for it; whether there is one."""
@@ -396,12 +432,23 @@ class ProcessInstance:
         else:
             self.connections[thread].reply(answer)
 
+    def goes_on(self, thread):
+        """Whether the next call of a thread is made in the same turn."""
+        return self.connections[thread].held > 0
+
     # ---- its end
 
     def leave(self):
-        """Waits for the end of a command whose connections are closed, and which may wait for the other end of them."""
+        """Waits for the end of a command whose connections are closed, and which may wait for the other end of them. Raises TooMuch and NotSupported."""
         self.status = self.process.returncode if self.has_ended() else 0
         self.test_support(self.status)
+        self.bounds.test_output(self.written)
+        if self.status and self.has_no_memory():
+            raise self.bounds.too_much_memory()
+
+    def has_no_memory(self):
+        """Whether it has died for want of memory, as far as that is known."""
+        return self.bounds.has_taken_all_memory(self.process.used) or (self.has_threads and NO_MEMORY in self.door.folder.lines())
 
     def has_ended(self):
         """Whether the command ends in a while. One that isn't the broker may wait for something that doesn't come, behind the broker's end."""
@@ -416,7 +463,9 @@ class ProcessInstance:
 
     def test_support(self, status):
         """Raises NotSupported where the shim has ended a broker as it is."""
-        line = next((line for line in self.output_so_far().split(b"\n") if line.startswith(UNSUPPORTED_LINE)), b"") if self.has_threads or status == UNSUPPORTED else b""
+        said = self.output_so_far().split(b"\n") if self.has_threads or status == UNSUPPORTED else []
+        told = self.door.folder.lines() if self.has_threads else []
+        line = next((line for line in (*told, *said) if line.startswith(UNSUPPORTED_LINE)), b"")
         if line:
             raise NotSupported(line[len(UNSUPPORTED_LINE):].decode("utf-8", "backslashreplace"))
 
@@ -425,7 +474,7 @@ class ProcessInstance:
 
     def close(self):
         """Answers the calls for which it waits by telling that the listener is closed."""
-        self.patience = LEAVE
+        self.until, self.is_closed = time.monotonic() + LEAVE, True
         for number, it in enumerate(self.connections):
             if it.is_open:
                 it.set_patience(LEAVE)

@@ -14,6 +14,16 @@ PAUSE = 0.001
 VERSION, CONTAINER, BUNDLE = "1.0.2", "container", "/"
 
 
+def is_served(path):
+    """Whether somebody waits at a Unix socket."""
+    with socket.socket(socket.AF_UNIX) as connected:
+        try:
+            connected.connect(path)
+        except OSError:
+            return False
+    return True
+
+
 class Listening(NamedTuple):
     """Where brokers wait for the listener, the metadata that they are sent with it, and the PID of the container's first task."""
 

@@ -79,9 +79,14 @@ def why_not_elf(path, head) -> Optional[str]:
     return None
 
 
+def program_of(command) -> Optional[str]:
+    """The path of the program that a command names; None where there is none."""
+    return shutil.which(command[0]) if "/" not in command[0] else command[0]
+
+
 def why_not(command, depth=0) -> Optional[str]:
     """Why no library can be preloaded into what a command starts, also behind `#!` and env(1), and what to do; None where one can, or the command can't be started at all."""
-    path = shutil.which(command[0]) if "/" not in command[0] else command[0]
+    path = program_of(command)
     try:
         with open(path, "rb") as file:
             head = file.read(MOST_HEAD)

@@ -38,10 +38,13 @@ class Started:
         """Raises OSError where it can't be started."""
         actions = [(os.POSIX_SPAWN_OPEN, 0, os.devnull, os.O_RDONLY, 0), (os.POSIX_SPAWN_DUP2, output, 1), (os.POSIX_SPAWN_DUP2, output, 2)]
         self.pid, self.returncode = spawned(command, environment, actions, setsid=True), None
+        # how much memory it had at most, in kibibytes, once it has ended
+        self.used = None
 
     def note(self, options):
-        pid, status = os.waitpid(self.pid, options) if self.returncode is None else (0, 0)
+        pid, status, usage = os.wait4(self.pid, options) if self.returncode is None else (0, 0, None)
         if pid:
+            self.used = usage.ru_maxrss
             self.returncode = -os.WTERMSIG(status) if os.WIFSIGNALED(status) else os.WEXITSTATUS(status)
         return self.returncode
 

@@ -8,6 +8,7 @@ from hashlib import blake2b
 from itertools import islice
 from typing import Callable, Dict, List, NamedTuple, Optional
 
+from exploring.bounds import Bounds, TooMuch
 from exploring.foresight import Foreseen, Foresight, Foretold
 from exploring.instances import Hangs, InlineInstance, NotSupported, ProcessInstance, drive
 from exploring.kernels import Asked, Difference, Kernel
@@ -48,6 +49,7 @@ class Setting(NamedTuple):
     # gives the instances of the broker, not yet started
     make: Callable
     program: Optional[str] = None
+    bounds: Bounds = Bounds()
 
     def seats_each(self, instances):
         return SEATS // len(instances)
@@ -89,6 +91,7 @@ class Kind(Enum):
     HANGS = "hangs"
     UNLIKE = "unlike"
     NOT_SUPPORTED = "not supported"
+    TOO_MUCH = "too-much"
     KERNELS_DIFFER = "kernels differ"
     JUDGES_DIFFER = "judges differ"
 
@@ -187,6 +190,7 @@ class Run:
         # of each thread the request that isn't answered yet
         self.pending: Dict[Actor, bytes] = {}
         self.polled_at, self.idle_calls = {}, [0] * len(self.instances)
+        self.calls = 0
         self.has_stepped = [False] * len(self.instances)
         # what is known in advance, and what there was
         self.known_turns, self.foretold = past.shared(planned) if past is not None else ([], [])
@@ -259,7 +263,7 @@ class Run:
             return
         try:
             part()
-        except (Hangs, NotSupported, Unlike) as wrong:
+        except (Hangs, NotSupported, TooMuch, Unlike) as wrong:
             if self.is_foreseen:
                 raise Foretold from None
             self.is_given_up = True
@@ -291,6 +295,8 @@ class Run:
             return Kind.HANGS, "it makes no call of the kernel, and doesn't end"
         if isinstance(wrong, NotSupported):
             return Kind.NOT_SUPPORTED, wrong.args[0]
+        if isinstance(wrong, TooMuch):
+            return Kind.TOO_MUCH, wrong.args[0]
         return Kind.UNLIKE, "it doesn't make the same calls as when it ran before, up to here"
 
     def course(self):
@@ -311,6 +317,9 @@ class Run:
                 self.has_stepped[self.last.instance] = True
                 self.answer(self.last)
                 self.note_calls((yield self.current))
+                while self.last in self.pending and self.instances[self.last.instance].goes_on(self.last.thread):
+                    self.answer(self.last)
+                    self.note_calls((yield self.current))
             if len(self.kernel.state.events) > MOST_EVENTS:
                 raise Hangs
         self.kernel.note_idle()
@@ -460,6 +469,8 @@ class Run:
         self.idle_calls[number] = 0 if len(self.kernel.state.events) > before else self.idle_calls[number] + 1
         if self.idle_calls[number] > MOST_IDLE:
             raise Hangs
+        self.calls += 1
+        self.setting.bounds.test_calls(self.calls)
         at, exchange = len(self.past.exchanges), Exchange(request, told)
         self.past.exchanges.append(exchange)
         if at < len(self.foretold) and exchange != self.foretold[at]:

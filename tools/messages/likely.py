@@ -12,6 +12,10 @@ FEW = 12
 OCTAL_ESCAPE = re.compile(r"\\0[0-7]{2}")
 
 
+# what a script is for: it is played, or its tasks step as `step` is asked, or as `explore-broker` tries it
+PLAY, STEP, EXPLORE_BROKER = USES = ("play", "step", "explore-broker")
+
+
 class Likely:
     """Looks through a script that the program takes."""
 
@@ -101,6 +105,13 @@ class Likely:
         yield from self.scheduled_tasks(schedule)
         yield from self.scheduled_workers(schedule)
 
+    def unused_schedule(self, use):
+        """A schedule where nobody goes by it."""
+        schedule = self.script.schedule
+        if schedule is not None:
+            yield self.on_word("schedule-not-used", schedule.opening, f"`{use}` doesn't go by the schedule, which says who steps in a play",
+                               "leave it out, or `play` the script" if use == STEP else "leave it out: tasks step in each order within the bound")
+
     def scheduled_tasks(self, schedule):
         """Scheduled tasks that never come, and tasks that come and aren't scheduled."""
         seen = set()
@@ -133,8 +144,9 @@ def numbers_and_texts(text):
     return [*found.octal_numbers(), *found.octal_escapes()]
 
 
-def findings(text):
-    """All that is likely a mistake, in the order of its place."""
+def findings(text, use=PLAY):
+    """All that is likely a mistake in a script that is used so, in the order of its place."""
     found = Likely(text)
-    every = [*numbers_and_texts(text), *found.listener(), *found.programs(), *found.schedule()]
+    of_schedule = found.schedule() if use == PLAY else found.unused_schedule(use)
+    every = [*numbers_and_texts(text), *found.listener(), *found.programs(), *of_schedule]
     return sorted(every, key=lambda it: (it.line, it.start))

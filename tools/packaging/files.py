@@ -76,7 +76,8 @@ def examples():
 
 def calls_of_step():
     """The header and the source that a broker of one's own in C takes, and that of the library for one as it is; they stand beside the examples as they do in a checkout."""
-    return {name: read(f"{TOP}/{name}") for name in ("include/seccomp_step.h", "lib/seccomp_step.c", "lib/shim.c")}
+    of_shim = (f"lib/shim/{name}" for name in sorted(os.listdir(f"{TOP}/lib/shim")))
+    return {name: read(f"{TOP}/{name}") for name in ("include/seccomp_step.h", "lib/seccomp_step.c", *of_shim)}
 
 
 def files_of(module):

@@ -1,0 +1,93 @@
+/*
+ * call_list.h - every system call that the library knows, and what becomes of it
+ *
+ * CALL(name, class, arguments, is_held): calls.h has what each is. A line that begins with `GROUP` heads the calls below it, with what is answered, passed and told of them:
+ * tools/guard-table makes the table of docs/YOUR_BROKER.md of these lines. What isn't here is told.
+ */
+GROUP("The listener", "RECV, ID_VALID, SEND and ADDFD; `poll`, and `epoll` in one set, for POLLIN, and for POLLOUT by itself", "`fcntl`, `dup`, `close`", "other requests, `select`, EPOLLET, two sets")
+CALL(ioctl, OWN, "f", 0) CALL(poll, OWN, "", 0) CALL(ppoll, OWN, "", 0) CALL(select, OWN, "", 0) CALL(pselect6, OWN, "", 0)
+CALL(epoll_ctl, OWN, "", 0) CALL(epoll_wait, OWN, "", 0) CALL(epoll_pwait, OWN, "", 0) CALL(epoll_pwait2, OWN, "", 0)
+CALL(epoll_create, PASS, "", 0) CALL(epoll_create1, PASS, "", 0)
+
+GROUP("The filter", "a filter with a listener: it isn't installed, and the listener is given; the sizes of structures", "other filters, for the process itself", "")
+CALL(seccomp, OWN, "", 0)
+
+GROUP("Opening", "of `/proc/PID`: `mem`, `root`, `cwd`, `fd/N`, `ns/mnt`, `status`, `stat`, `comm`, and the folder itself", "reading other files; writing those of the run", "other files of `/proc/PID`; what stands in the tree, but with O_PATH; writing elsewhere")
+CALL(open, OWN, "", 0) CALL(openat, OWN, "", 0) CALL(openat2, OWN, "", 0) CALL(creat, LOOK, "w", 1)
+
+GROUP("Reading and writing", "reads of a memory, and `pwrite` of a `struct sysinfo`", "all other descriptors", "other writes to a memory; a descriptor of a task in any other call")
+CALL(read, OWN, "f", 0) CALL(pread64, OWN, "f", 0) CALL(readv, OWN, "f", 0) CALL(preadv, OWN, "f", 0) CALL(preadv2, OWN, "f", 0) CALL(lseek, OWN, "f", 0)
+CALL(write, OWN, "f", 0) CALL(pwrite64, OWN, "f", 0) CALL(writev, OWN, "f", 0) CALL(pwritev, OWN, "f", 0) CALL(pwritev2, OWN, "f", 0)
+CALL(process_vm_readv, OWN, "", 1) CALL(process_vm_writev, LOOK, "i", 1)
+CALL(sendfile, LOOK, "ff", 0) CALL(splice, LOOK, "f.f", 0) CALL(tee, LOOK, "ff", 0) CALL(vmsplice, LOOK, "f", 0) CALL(copy_file_range, LOOK, "f.f", 0)
+CALL(readahead, LOOK, "f", 0) CALL(fadvise64, LOOK, "f", 0) CALL(sync_file_range, LOOK, "f", 0) CALL(fsync, LOOK, "f", 0) CALL(fdatasync, LOOK, "f", 0) CALL(sync, PASS, "", 0)
+CALL(syncfs, LOOK, "f", 0) CALL(flock, LOOK, "f", 0) CALL(getdents, LOOK, "f", 0) CALL(getdents64, LOOK, "f", 0) CALL(ftruncate, LOOK, "f", 0) CALL(fallocate, LOOK, "f", 0)
+
+GROUP("Descriptors", "copies of a task's descriptors", "all", "")
+CALL(close, OWN, "", 0) CALL(close_range, OWN, "", 0) CALL(dup, OWN, "", 0) CALL(dup2, OWN, "", 0) CALL(dup3, OWN, "", 0) CALL(fcntl, OWN, "", 0)
+CALL(pipe, PASS, "", 0) CALL(pipe2, PASS, "", 0) CALL(eventfd, PASS, "", 0) CALL(eventfd2, PASS, "", 0) CALL(signalfd, PASS, "", 0) CALL(signalfd4, PASS, "", 0)
+CALL(timerfd_create, PASS, "", 0) CALL(timerfd_settime, LOOK, "f", 0) CALL(timerfd_gettime, LOOK, "f", 0) CALL(memfd_create, PASS, "", 0) CALL(memfd_secret, PASS, "", 0)
+CALL(inotify_init, PASS, "", 0) CALL(inotify_init1, PASS, "", 0) CALL(inotify_add_watch, LOOK, ".r", 0) CALL(inotify_rm_watch, PASS, "", 0)
+
+GROUP("Effects in the tree", "`mknod`, `mount` and `setxattr` below a task's root, from its folders, behind `setns`, and with `--same-root` anywhere", "pipes, sockets and files of the run", "devices and mounts elsewhere; from another folder than the last one that was opened")
+CALL(mknod, OWN, "", 1) CALL(mknodat, OWN, "", 1) CALL(mount, OWN, "", 1) CALL(setxattr, OWN, "", 1)
+
+GROUP("Questions about the tree", "the kind, the device and the node's number of what stands below a task's root", "other files", "owners, modes, times, attributes and the file system of such a node")
+CALL(stat, OWN, "", 0) CALL(lstat, OWN, "", 0) CALL(fstat, OWN, "", 0) CALL(newfstatat, OWN, "", 0) CALL(statx, OWN, "", 0)
+CALL(access, OWN, "", 0) CALL(faccessat, OWN, "", 0) CALL(faccessat2, OWN, "", 0) CALL(readlink, OWN, "", 0) CALL(readlinkat, OWN, "", 0)
+CALL(statfs, LOOK, "r", 0) CALL(fstatfs, LOOK, "f", 0) CALL(getxattr, LOOK, "r", 0) CALL(lgetxattr, LOOK, "r", 0) CALL(fgetxattr, LOOK, "f", 0)
+CALL(listxattr, LOOK, "r", 0) CALL(llistxattr, LOOK, "r", 0) CALL(flistxattr, LOOK, "f", 0)
+
+GROUP("Changing files", "", "below the run's folder and each `--writable FOLDER`", "elsewhere, and of tasks")
+CALL(truncate, LOOK, "w", 1) CALL(rename, LOOK, "ee", 1) CALL(renameat, LOOK, "dede", 1) CALL(renameat2, LOOK, "dede", 1) CALL(mkdir, LOOK, "e", 1) CALL(mkdirat, LOOK, "de", 1)
+CALL(rmdir, LOOK, "e", 1) CALL(link, LOOK, "we", 1) CALL(linkat, LOOK, "dwde", 1) CALL(unlink, LOOK, "e", 1) CALL(unlinkat, LOOK, "de", 1) CALL(symlink, LOOK, ".e", 1)
+CALL(symlinkat, LOOK, ".de", 1) CALL(chmod, LOOK, "w", 1) CALL(fchmod, LOOK, "m", 1) CALL(fchmodat, LOOK, "dw", 1) CALL(chown, LOOK, "w", 1) CALL(fchown, LOOK, "m", 1)
+CALL(lchown, LOOK, "e", 1) CALL(fchownat, LOOK, "dw", 1) CALL(utime, LOOK, "w", 1) CALL(utimes, LOOK, "w", 1) CALL(futimesat, LOOK, "dw", 1) CALL(utimensat, LOOK, "dw", 1)
+CALL(lsetxattr, LOOK, "e", 1) CALL(fsetxattr, LOOK, "m", 1) CALL(removexattr, LOOK, "w", 1) CALL(lremovexattr, LOOK, "e", 1) CALL(fremovexattr, LOOK, "m", 1)
+CALL(chdir, OWN, "", 0) CALL(fchdir, OWN, "", 0) CALL(getcwd, PASS, "", 0) CALL(umask, PASS, "", 0)
+
+GROUP("Processes", "`pidfd_open` of a task, `pidfd_getfd` of its folders, `poll` of its end, signal 0; `setns` to its mount namespace, `chroot` to its root", "children, threads, programs linked with the same C library; signals to the broker's own processes", "other signals and PIDs; static programs; `setsid`; new namespaces; `ptrace`")
+CALL(pidfd_open, OWN, "", 1) CALL(pidfd_getfd, OWN, "", 1) CALL(pidfd_send_signal, OWN, "", 1) CALL(setns, OWN, "", 1) CALL(chroot, OWN, "", 1)
+CALL(clone, OWN, "", 0) CALL(clone3, OWN, "", 0) CALL(fork, OWN, "", 0) CALL(vfork, OWN, "", 0) CALL(execve, OWN, "", 0) CALL(execveat, OWN, "", 0)
+CALL(exit, PASS, "", 0) CALL(exit_group, PASS, "", 0) CALL(wait4, PASS, "", 0) CALL(waitid, OWN, "", 0)
+CALL(kill, OWN, "", 1) CALL(tkill, LOOK, "i", 1) CALL(tgkill, LOOK, "i", 1) CALL(rt_sigqueueinfo, LOOK, "i", 1) CALL(rt_tgsigqueueinfo, LOOK, "i", 1)
+CALL(getpid, PASS, "", 0) CALL(getppid, PASS, "", 0) CALL(gettid, PASS, "", 0) CALL(getpgrp, PASS, "", 0) CALL(setpgid, LOOK, "i", 0) CALL(getpgid, LOOK, "i", 0)
+CALL(getsid, LOOK, "i", 0) CALL(setsid, NEVER, "", 0) CALL(unshare, OWN, "", 1) CALL(ptrace, NEVER, "", 0) CALL(kcmp, LOOK, "ii", 1) CALL(get_robust_list, LOOK, "i", 0)
+CALL(process_madvise, NEVER, "", 0) CALL(process_mrelease, NEVER, "", 0) CALL(migrate_pages, LOOK, "i", 0) CALL(move_pages, LOOK, "i", 0)
+CALL(getpriority, OWN, "", 0) CALL(setpriority, OWN, "", 0) CALL(ioprio_get, OWN, "", 0) CALL(ioprio_set, OWN, "", 0) CALL(prlimit64, LOOK, "i", 0)
+CALL(sched_setparam, LOOK, "i", 0) CALL(sched_getparam, LOOK, "i", 0) CALL(sched_setscheduler, LOOK, "i", 0) CALL(sched_getscheduler, LOOK, "i", 0)
+CALL(sched_rr_get_interval, LOOK, "i", 0) CALL(sched_setaffinity, LOOK, "i", 0) CALL(sched_getaffinity, LOOK, "i", 0) CALL(sched_setattr, LOOK, "i", 0) CALL(sched_getattr, LOOK, "i", 0)
+CALL(sched_get_priority_max, PASS, "", 0) CALL(sched_get_priority_min, PASS, "", 0) CALL(sched_yield, PASS, "", 0) CALL(getcpu, PASS, "", 0)
+
+GROUP("Sockets", "", "Unix sockets below the run's folders; what the broker's own processes have bound, also abstract names and ports of 127.0.0.1 and ::1", "all other addresses; other families")
+CALL(socket, OWN, "", 0) CALL(socketpair, PASS, "", 0) CALL(connect, OWN, "f", 0) CALL(bind, OWN, "f", 0) CALL(listen, LOOK, "f", 0) CALL(accept, LOOK, "f", 0) CALL(accept4, LOOK, "f", 0)
+CALL(sendto, OWN, "f", 0) CALL(recvfrom, LOOK, "f", 0) CALL(sendmsg, OWN, "f", 0) CALL(recvmsg, OWN, "f", 0) CALL(sendmmsg, OWN, "f", 0) CALL(recvmmsg, OWN, "f", 0)
+CALL(shutdown, LOOK, "f", 0) CALL(getsockname, LOOK, "f", 0) CALL(getpeername, LOOK, "f", 0) CALL(setsockopt, LOOK, "f", 0) CALL(getsockopt, LOOK, "f", 0)
+
+GROUP("Signals, memory, time, identity", "", "all of the process itself", "dispatch of system calls")
+CALL(rt_sigaction, OWN, "", 0) CALL(rt_sigprocmask, OWN, "", 0) CALL(rt_sigreturn, PASS, "", 0) CALL(rt_sigpending, PASS, "", 0) CALL(rt_sigtimedwait, PASS, "", 0)
+CALL(rt_sigsuspend, OWN, "", 0) CALL(sigaltstack, PASS, "", 0) CALL(pause, PASS, "", 0) CALL(restart_syscall, PASS, "", 0)
+CALL(mmap, OWN, "", 0) CALL(mremap, PASS, "", 0) CALL(mprotect, PASS, "", 0) CALL(munmap, OWN, "", 0) CALL(brk, PASS, "", 0) CALL(msync, PASS, "", 0) CALL(mincore, PASS, "", 0)
+CALL(madvise, PASS, "", 0) CALL(mlock, PASS, "", 0) CALL(mlock2, PASS, "", 0) CALL(munlock, PASS, "", 0) CALL(mlockall, PASS, "", 0) CALL(munlockall, PASS, "", 0)
+CALL(mbind, PASS, "", 0) CALL(set_mempolicy, PASS, "", 0) CALL(get_mempolicy, PASS, "", 0) CALL(pkey_mprotect, PASS, "", 0) CALL(pkey_alloc, PASS, "", 0) CALL(pkey_free, PASS, "", 0)
+CALL(membarrier, PASS, "", 0) CALL(futex, PASS, "", 0) CALL(futex_waitv, PASS, "", 0) CALL(set_robust_list, PASS, "", 0) CALL(set_tid_address, PASS, "", 0) CALL(rseq, PASS, "", 0)
+CALL(arch_prctl, PASS, "", 0) CALL(prctl, OWN, "", 0) CALL(personality, PASS, "", 0) CALL(getrandom, PASS, "", 0) CALL(uname, PASS, "", 0) CALL(sysinfo, PASS, "", 0)
+CALL(nanosleep, PASS, "", 0) CALL(clock_nanosleep, PASS, "", 0) CALL(clock_gettime, PASS, "", 0) CALL(clock_getres, PASS, "", 0) CALL(gettimeofday, PASS, "", 0) CALL(time, PASS, "", 0)
+CALL(times, PASS, "", 0) CALL(getitimer, PASS, "", 0) CALL(setitimer, PASS, "", 0) CALL(alarm, PASS, "", 0) CALL(timer_create, PASS, "", 0) CALL(timer_settime, PASS, "", 0)
+CALL(timer_gettime, PASS, "", 0) CALL(timer_getoverrun, PASS, "", 0) CALL(timer_delete, PASS, "", 0) CALL(getrlimit, PASS, "", 0) CALL(setrlimit, PASS, "", 0) CALL(getrusage, PASS, "", 0)
+CALL(getuid, PASS, "", 0) CALL(geteuid, PASS, "", 0) CALL(getgid, PASS, "", 0) CALL(getegid, PASS, "", 0) CALL(setuid, OWN, "", 0) CALL(setgid, PASS, "", 0) CALL(setreuid, PASS, "", 0)
+CALL(setregid, PASS, "", 0) CALL(setresuid, PASS, "", 0) CALL(getresuid, PASS, "", 0) CALL(setresgid, PASS, "", 0) CALL(getresgid, PASS, "", 0) CALL(getgroups, PASS, "", 0)
+CALL(setgroups, PASS, "", 0) CALL(setfsuid, PASS, "", 0) CALL(setfsgid, PASS, "", 0) CALL(capget, PASS, "", 0) CALL(capset, PASS, "", 0)
+CALL(landlock_create_ruleset, PASS, "", 0) CALL(landlock_add_rule, PASS, "", 0) CALL(landlock_restrict_self, PASS, "", 0)
+
+GROUP("The machine", "", "", "all")
+CALL(umount2, NEVER, "", 0) CALL(pivot_root, NEVER, "", 0) CALL(open_tree, NEVER, "", 0) CALL(move_mount, NEVER, "", 0) CALL(fsopen, NEVER, "", 0) CALL(fsconfig, NEVER, "", 0)
+CALL(fsmount, NEVER, "", 0) CALL(fspick, NEVER, "", 0) CALL(mount_setattr, NEVER, "", 0) CALL(swapon, NEVER, "", 0) CALL(swapoff, NEVER, "", 0) CALL(quotactl, NEVER, "", 0)
+CALL(quotactl_fd, NEVER, "", 0) CALL(name_to_handle_at, NEVER, "", 0) CALL(open_by_handle_at, NEVER, "", 0) CALL(fanotify_init, NEVER, "", 0) CALL(fanotify_mark, NEVER, "", 0)
+CALL(init_module, NEVER, "", 0) CALL(finit_module, NEVER, "", 0) CALL(delete_module, NEVER, "", 0) CALL(kexec_load, NEVER, "", 0) CALL(kexec_file_load, NEVER, "", 0)
+CALL(reboot, NEVER, "", 0) CALL(sethostname, NEVER, "", 0) CALL(setdomainname, NEVER, "", 0) CALL(iopl, NEVER, "", 0) CALL(ioperm, NEVER, "", 0) CALL(acct, NEVER, "", 0)
+CALL(settimeofday, NEVER, "", 0) CALL(adjtimex, NEVER, "", 0) CALL(clock_settime, NEVER, "", 0) CALL(clock_adjtime, NEVER, "", 0) CALL(syslog, NEVER, "", 0)
+CALL(bpf, NEVER, "", 0) CALL(perf_event_open, NEVER, "", 0) CALL(userfaultfd, NEVER, "", 0) CALL(io_uring_setup, NEVER, "", 0) CALL(io_uring_enter, NEVER, "", 0)
+CALL(io_uring_register, NEVER, "", 0) CALL(add_key, NEVER, "", 0) CALL(request_key, NEVER, "", 0) CALL(keyctl, NEVER, "", 0)
+CALL(shmget, NEVER, "", 0) CALL(shmat, NEVER, "", 0) CALL(shmctl, NEVER, "", 0) CALL(shmdt, NEVER, "", 0) CALL(semget, NEVER, "", 0) CALL(semop, NEVER, "", 0) CALL(semctl, NEVER, "", 0)
+CALL(semtimedop, NEVER, "", 0) CALL(msgget, NEVER, "", 0) CALL(msgsnd, NEVER, "", 0) CALL(msgrcv, NEVER, "", 0) CALL(msgctl, NEVER, "", 0) CALL(mq_open, NEVER, "", 0) CALL(mq_unlink, NEVER, "", 0)
