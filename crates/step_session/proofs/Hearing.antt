@@ -13,7 +13,7 @@ use Rattle.hist_model.specs.declared.event.Event.{Event}
 use Rattle.hist_model.specs.declared.event.What.{What}
 use Rattle.hist_model.specs.declared.event.What.TheVariants.{Close}
 use Rattle.hist_model.specs.declared.script.Script.{Script}
-use Rattle.judge_pass.specs.Closed.{is_closed}
+use Rattle.judge_pass.specs.Closed.{is_closed as is_closed_to_judges}
 use Rattle.judge_pass.specs.Finding.{Watches}
 use Rattle.judge_pass.specs.Stands.{IsHistory}
 use Rattle.judge_pass.specs.declared.watch.Watch.{Watch}
@@ -22,8 +22,11 @@ use Rattle.model_kernel.specs.declared.kernel.Kernel.{Kernel}
 use Rattle.step_requests.specs.declared.request.Asked.{Asked}
 use Rattle.step_requests.specs.declared.request.StepRequest.{StepRequest}
 use Rattle.step_requests.specs.declared.request.StepRequest.TheVariants as step
-use Rattle.step_session.specs.Answers.{IsAsked, IsBegun, answered, closed_answer, deed_answer, judged, open_answer, task_answer, with_step, worker_answer}
-use Rattle.step_session.specs.Asking.{deed_of, refused}
+use Rattle.asked_steps.specs.Asking.{deed_of, refused}
+use Rattle.asked_steps.specs.Steps.{IsBegun, after_deed, after_task, after_unless, is_closed, with_step}
+use Rattle.asked_steps.specs.declared.refusal.Refusal.{Refusal}
+use Rattle.asked_steps.proofs.Kept.{started_begun}
+use Rattle.step_session.specs.Answers.{IsAsked, answered, closed_answer, judged, open_answer}
 use Rattle.step_session.specs.Judged.{HasHeard, IsAhead, IsJudged, IsOneMore, IsServed, IsStanding, heard}
 use Rattle.step_session.specs.Stands.{IsAnswered, IsOpen, Stands, StateStands}
 use Rattle.step_session.specs.declared.container.Container.{Container}
@@ -31,8 +34,6 @@ use Rattle.step_session.specs.declared.container.State.{State}
 use Rattle.step_session.specs.declared.container.State.TheVariants.{Open}
 use Rattle.step_session.specs.declared.judged.JudgedContainer.{JudgedContainer}
 use Rattle.step_session.specs.declared.origin.Origin.{Origin}
-use Rattle.step_session.specs.declared.refusal.Refusal.{Refusal}
-use Rattle.step_session.proofs.Histories.{started_begun}
 use Rattle.step_session.proofs.Kept.{kept}
 use Rattle.step_session.proofs.Told.{closed-is, open-is}
 
@@ -45,18 +46,18 @@ step-more K who what open-still = by (skips what) refl
     by true q = rw q (inl refl)
     by false q = rw q (inr (open-still, (ev who what, refl)))
 
-task-more : (S : Script) (K : List Event) (n : Name) → is_closed K ≡ false → IsOneMore K (task_answer S K n).0
+task-more : (S : Script) (K : List Event) (n : Name) → is_closed K ≡ false → IsOneMore K (after_task S K n)
 task-more S K n open-still = by (is_made K n) refl
   where
-    by : (b : Bool) → is_made K n ≡ b → IsOneMore K (task_answer S K n).0
+    by : (b : Bool) → is_made K n ≡ b → IsOneMore K (after_task S K n)
     by true q = rw q (step-more K (Task n) (task_step (system_of S) K n) open-still)
     by false q = rw q (inl refl)
 
-deed-more : (S : Script) (K : List Event) (w : ℕ) (d : Option Deed) → is_closed K ≡ false → IsOneMore K (deed_answer S K w d).0
+deed-more : (S : Script) (K : List Event) (w : ℕ) (d : Option Deed) → is_closed K ≡ false → IsOneMore K (after_deed S K w d)
 deed-more S K w None open-still = inl refl
 deed-more S K w (Some d) open-still = step-more K (Worker w) (deed_step (system_of S) K w d) open-still
 
-worker-more : (S : Script) (K : List Event) (w : ℕ) (asked : Asked) (why : Option Refusal) → is_closed K ≡ false → IsOneMore K (worker_answer S K w asked why).0
+worker-more : (S : Script) (K : List Event) (w : ℕ) (asked : Asked) (why : Option Refusal) → is_closed K ≡ false → IsOneMore K (after_unless S K w asked why)
 worker-more S K w asked (Some why) open-still = inl refl
 worker-more S K w asked None open-still = deed-more S K w (deed_of asked) open-still
 
@@ -86,6 +87,11 @@ one-more P S K r = by (is_closed K) refl
     by false q = subst (λ (a : List Event × List ℕ). IsOneMore K a.0) (sym (open-is P S K r q)) (open-more P S K r q)
 
 -- ---- what is heard
+
+-- the judge asks the same of a history
+pub closed_alike : (K : List Event) → is_closed_to_judges K ≡ is_closed K
+closed_alike [] = refl
+closed_alike (e ∷ K) = refl
 
 pub heard-open : (K : List Event) → is_closed K ≡ false → heard K ≡ K
 heard-open [] q = refl
@@ -126,7 +132,7 @@ heard_closed P S K H c s is shut ahead = record {
 pub record HasMore (P : Origin) (k : Kernel) (w : Watch) : Type 0 where
   pub kernel : IsKernel k
   pub history : IsHistory k.script (past k)
-  pub goes_on : is_closed (past k) ≡ false
+  pub goes_on : is_closed_to_judges (past k) ≡ false
   pub watches : (K : List Event) (e : Event) → past k ≡ e ∷ K → Watches P.policy k.script K w
 
 tail-is : (e f : Event) (K L : List Event) → e ∷ K ≡ f ∷ L → K ≡ L
@@ -138,7 +144,7 @@ newer P S K H k w opened begun (inl is) watches other fits = absurd (other (ap l
 newer P S K H k w opened begun (inr (open-still, (f, is))) watches other fits = record {
   kernel = opened.kernel;
   history = subst (λ L. IsHistory k.script L) (sym opened.past) (subst (λ s. IsHistory s H) (sym opened.script) (record { of_kernel = begun.1; fits = fits }));
-  goes_on = ap is_closed opened.past ∙ opened.open_still;
+  goes_on = closed_alike (past k) ∙ ap is_closed opened.past ∙ opened.open_still;
   watches = λ L e q.
       let same : K ≡ L = tail-is f e K L (sym is ∙ sym opened.past ∙ q) in
       subst (λ s. Watches P.policy s L w) (sym opened.script) (subst (λ J. Watches P.policy S J w) (heard-open K open-still ∙ same) watches);

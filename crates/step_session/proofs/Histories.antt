@@ -1,20 +1,19 @@
 -- The history after lines is one of the kernel.
 -- By induction on the lines, since a request that was read is one that may be asked.
-use Rattle.std.proofs.Common.{◌≡◌, ℕ, ◌<◌, ◌^◌, Bool, true, false, List, [], ◌∷◌, length, refl, arith}
+use Rattle.std.proofs.Common.{◌≡◌, ℕ, ◌<◌, ◌^◌, Bool, true, false, List, [], ◌∷◌, length, refl}
 use Rattle.std.specs.Prelude.{Result, Ok, Err, nat_lt, if◌then◌else◌}
 use Rattle.hist_model.specs.Legal.{OfKernel, started}
 use Rattle.hist_model.specs.declared.event.Event.{Event}
 use Rattle.step_session.specs.declared.origin.Origin.{Origin}
 use Rattle.hist_model.specs.declared.script.Script.{Script}
-use Rattle.step_session.specs.Answers.{IsAsked, IsBegun, answered}
+use Rattle.asked_steps.specs.Steps.{IsBegun}
+use Rattle.asked_steps.proofs.Kept.{started_begun}
+use Rattle.step_session.specs.Answers.{IsAsked, answered}
 use Rattle.step_requests.specs.Readings.{reads}
 use Rattle.step_requests.specs.declared.fault.LineFault.{LineFault}
 use Rattle.step_requests.specs.declared.request.StepRequest.{StepRequest}
 use Rattle.step_session.specs.Lines.{history_after, line_answer, long_text, longest, read_answer}
 use Rattle.step_session.proofs.Requests.{may_be_asked}
-
-pub started_begun : (S : Script) → IsBegun S (started S)
-started_begun S = (omega arith, (refl, tt))
 
 read-kept : (P : Origin) (S : Script) (K : List Event) (reading : Result StepRequest LineFault)
     → ((r : StepRequest) → IsAsked r → IsBegun S K → IsBegun S (answered P S K r).0)

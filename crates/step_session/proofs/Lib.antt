@@ -5,11 +5,9 @@ pub mod Requests
 pub mod Sessions
 pub mod Splits
 pub mod Fronts
-pub mod Asked
 pub mod Kept
 pub mod Hearing
 pub mod Telling
 pub mod AbleTasks
 pub mod Told
-pub mod Unclosed
 pub mod Stepping

@@ -20,7 +20,9 @@ use Rattle.hist_model.specs.declared.policy.Policy.{Policy}
 use Rattle.hist_model.specs.declared.script.Script.{Script}
 use Rattle.history_frames.specs.Ordinals.{count_of}
 use Rattle.history_frames.proofs.Ordinals.{made-same}
-use Rattle.judge_pass.specs.Closed.{is_closed}
+use Rattle.asked_steps.specs.Steps.{IsBegun, is_closed}
+use Rattle.asked_steps.proofs.Unclosed.{deed_unclosed, task_unclosed}
+use Rattle.judge_pass.specs.Closed.{is_closed as is_closed_to_judges}
 use Rattle.judge_pass.specs.Counted.{AreCounted, is_answering}
 use Rattle.judge_pass.specs.Finding.{Finding, Watches, as_finding, finding, or_here}
 use Rattle.judge_pass.specs.Heads.{events_of, head_text, mediated_text, numbers_text, or_mediated}
@@ -29,7 +31,7 @@ use Rattle.judge_pass.specs.declared.judge.Counts.{Counts}
 use Rattle.judge_pass.specs.declared.watch.FirstFault.{FirstFault}
 use Rattle.model_kernel.specs.declared.kernel.Kernel.{Kernel}
 use Rattle.step_requests.specs.declared.request.StepRequest.TheVariants as step
-use Rattle.step_session.specs.Answers.{IsBegun, judge_text, judged}
+use Rattle.step_session.specs.Answers.{judge_text, judged}
 use Rattle.step_session.specs.Judged.{IsJudged, IsServed, IsStanding, heard}
 use Rattle.step_session.specs.Stands.{Stands}
 use Rattle.step_session.specs.Texts.{sized}
@@ -38,8 +40,7 @@ use Rattle.step_session.specs.declared.container.State.TheVariants.{Closed, Open
 use Rattle.step_session.specs.declared.judged.JudgedContainer.{JudgedContainer}
 use Rattle.step_session.specs.declared.origin.Origin.{Origin}
 use Rattle.step_session.proofs.Told.{alike}
-use Rattle.step_session.proofs.Unclosed.{deed_unclosed, task_unclosed}
-use Rattle.step_session.proofs.Hearing.{heard-open, of-state}
+use Rattle.step_session.proofs.Hearing.{closed_alike, heard-open, of-state}
 
 -- ---- what is told
 
@@ -154,15 +155,15 @@ found_as P S K found idle asked q is = is ∙ ap (judged P S K) (sym q)
 
 pub found_shut : (P : Origin) (S : Script) (K : List Event) (c : JudgedContainer) (h : Seen) → c.container.state ≡ Closed h → IsJudged P S K c → option_map as_finding c.watch.found ≡ judged P S K true
 found_shut P S K c h is here =
-    let shut = (of-state S K c.container (Closed h) is here.stands).1 in
+    let shut : is_closed_to_judges K ≡ true = closed_alike K ∙ (of-state S K c.container (Closed h) is here.stands).1 in
     let none : found_left K ≡ None = rw shut refl in
     found_plain P S K c here ∙ sym (ap (or_here (finding P.policy S K)) none ∙ or-none (finding P.policy S K))
 
 -- while the listener is open, the judge has heard all
-pub watches_open : (P : Origin) (S : Script) (K : List Event) (c : JudgedContainer) (k : Kernel) → c.container.state ≡ Open k → IsJudged P S K c → Watches P.policy S K c.watch × (is_closed K ≡ false)
+pub watches_open : (P : Origin) (S : Script) (K : List Event) (c : JudgedContainer) (k : Kernel) → c.container.state ≡ Open k → IsJudged P S K c → Watches P.policy S K c.watch × (is_closed_to_judges K ≡ false)
 watches_open P S K c k is here =
     let q = (of-state S K c.container (Open k) is here.stands).open_still in
-    (subst (λ L. Watches P.policy S L c.watch) (heard-open K q) here.watches, q)
+    (subst (λ L. Watches P.policy S L c.watch) (heard-open K q) here.watches, closed_alike K ∙ q)
 
 pub some_events : (P : Origin) (c : JudgedContainer) (n : ℕ) → IsStanding P c → ((S : Script) (K : List Event) → Stands S K c.container → n ≡ length K) → 0 < n
 some_events P c n (S, (K, here)) events = let q = events S K here.stands in omega (arith, q, here.begun.0)

@@ -1,32 +1,19 @@
 -- What a container answers.
 -- By whether its listener is closed, of which the history's newest event tells.
-use Rattle.std.proofs.Common.{◌≡◌, ℕ, Bool, true, false, List, ◌++◌, Option, Some, None, refl, sym, ap, subst, ◌∙◌}
+use Rattle.std.proofs.Common.{◌≡◌, ℕ, Bool, true, false, List, ◌++◌, refl, sym, ap, subst, ◌∙◌}
 use Rattle.std.specs.Prelude.{Result, Ok, Err, OnOk}
-use Rattle.hist_model.specs.Deeds.{Deed}
-use Rattle.hist_model.specs.Kinds.{closes, skips}
-use Rattle.hist_model.specs.Legal.{system_of}
-use Rattle.hist_model.specs.Look.{Name}
-use Rattle.hist_model.specs.Steps.{deed_step, task_step}
-use Rattle.hist_model.specs.Tasks.{is_made}
-use Rattle.hist_model.specs.declared.event.Actor.{Actor}
-use Rattle.hist_model.specs.declared.event.Actor.TheVariants.{Task, Worker}
 use Rattle.hist_model.specs.declared.event.Event.{Event}
-use Rattle.hist_model.specs.declared.event.What.{What}
-use Rattle.judge_pass.specs.Closed.{is_closed}
+use Rattle.asked_steps.specs.Steps.{is_closed}
 use Rattle.step_session.specs.declared.origin.Origin.{Origin}
 use Rattle.hist_model.specs.declared.script.Script.{Script}
 use Rattle.model_kernel.specs.Kernels.{past}
 use Rattle.model_kernel.specs.declared.kernel.Kernel.{Kernel}
-use Rattle.step_requests.specs.declared.request.Asked.{Asked}
 use Rattle.step_requests.specs.declared.request.StepRequest.{StepRequest}
 use Rattle.step_requests.specs.declared.request.StepRequest.TheVariants as step
-use Rattle.step_session.specs.Answers.{answered, closed_answer, deed_answer, open_answer, report_text, script_answer, task_answer, with_step, worker_answer}
-use Rattle.step_session.specs.Asking.{deed_of}
+use Rattle.step_session.specs.Answers.{answered, closed_answer, open_answer, report_text, script_answer}
 use Rattle.step_session.specs.Stands.{Answers, IsAnswered, IsOpen, Stands, StateStands}
 use Rattle.step_session.specs.declared.container.Container.{Container}
 use Rattle.step_session.specs.declared.container.State.TheVariants.{Open}
-use Rattle.step_session.specs.declared.refusal.Refusal.{Refusal}
-use Rattle.step_session.proofs.Unclosed.{deed_unclosed, task_unclosed}
 
 pub on_ok : {T E X Y : Type 0} (r : Result T E) → (X → Y) → OnOk r X → OnOk r Y
 on_ok (Ok x) f h = f h
@@ -72,28 +59,6 @@ pub scripted : (P : Origin) (c : Container) (before after : List ℕ) (events : 
 scripted P c before after events = told_of P step.Script (script_answer P) c before after events (λ S K. alike P S K step.Script (K, script_answer P K) refl refl)
 
 -- ---- containers whose listener is open, and others
-
-pub open_kept_step : (K : List Event) (who : Actor) (what : What) → is_closed K ≡ false → closes what ≡ false → is_closed (with_step who what K) ≡ false
-open_kept_step K who what q h = by (skips what) refl
-  where
-    by : (b : Bool) → skips what ≡ b → is_closed (with_step who what K) ≡ false
-    by true s = rw s q
-    by false s = rw s h
-
-pub task_keeps_open : (S : Script) (K : List Event) (n : Name) → is_closed K ≡ false → is_closed (task_answer S K n).0 ≡ false
-task_keeps_open S K n q = by (is_made K n) refl
-  where
-    by : (b : Bool) → is_made K n ≡ b → is_closed (task_answer S K n).0 ≡ false
-    by true m = rw m (open_kept_step K (Task n) (task_step (system_of S) K n) q (task_unclosed (system_of S) K n))
-    by false m = rw m q
-
-deed_keeps_open : (S : Script) (K : List Event) (w : ℕ) (d : Option Deed) → is_closed K ≡ false → is_closed (deed_answer S K w d).0 ≡ false
-deed_keeps_open S K w None q = q
-deed_keeps_open S K w (Some d) q = open_kept_step K (Worker w) (deed_step (system_of S) K w d) q (deed_unclosed (system_of S) K w d)
-
-pub worker_keeps_open : (S : Script) (K : List Event) (w : ℕ) (asked : Asked) (why : Option Refusal) → is_closed K ≡ false → is_closed (worker_answer S K w asked why).0 ≡ false
-worker_keeps_open S K w asked (Some why) q = q
-worker_keeps_open S K w asked None q = deed_keeps_open S K w (deed_of asked) q
 
 -- an open container is the one whose kernel is open
 of_open : (S : Script) (K : List Event) (c : Container) (k : Kernel) → c.state ≡ Open k → Stands S K c → IsOpen S K k

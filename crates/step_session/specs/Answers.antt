@@ -5,18 +5,17 @@ use Rattle.hist_model.specs.Calls.{count}
 use Rattle.hist_model.specs.Deeds.{Deed}
 use Rattle.hist_model.specs.Kinds.{skips}
 use Rattle.hist_model.specs.Legal.{system_of}
-use Rattle.hist_model.specs.Look.{Name, ev}
+use Rattle.hist_model.specs.Look.{Name}
 use Rattle.hist_model.specs.Names.{is_task_name}
 use Rattle.hist_model.specs.Report.{report}
 use Rattle.hist_model.specs.ReportAudit.{judging_by}
-use Rattle.hist_model.specs.Steps.{IsOfKernel, deed_step, task_step}
+use Rattle.hist_model.specs.Steps.{deed_step, task_step}
 use Rattle.hist_model.specs.Tasks.{is_made}
 use Rattle.hist_model.specs.declared.event.Actor.{Actor}
 use Rattle.hist_model.specs.declared.event.Actor.TheVariants.{Listener, Task, Worker}
 use Rattle.hist_model.specs.declared.event.Event.{Event}
 use Rattle.hist_model.specs.declared.event.What.{What}
 use Rattle.hist_model.specs.declared.event.What.TheVariants.{Close}
-use Rattle.judge_pass.specs.Closed.{is_closed}
 use Rattle.judge_pass.specs.Finding.{Finding, finding}
 use Rattle.judge_pass.specs.Heads.{head_text}
 use Rattle.judge_pass.specs.Idle.{finding_idle}
@@ -26,31 +25,38 @@ use Rattle.history_frames.specs.Ordinals.{task_name_of, tasks_made}
 use Rattle.step_requests.specs.declared.request.Asked.{Asked}
 use Rattle.step_requests.specs.declared.request.StepRequest.{StepRequest}
 use Rattle.step_requests.specs.declared.request.StepRequest.TheVariants as step
-use Rattle.step_session.specs.Asking.{deed_of, refused}
+use Rattle.asked_steps.specs.Asking.{deed_of, refused}
+use Rattle.asked_steps.specs.Steps.{after_asked, after_task, is_closed, with_step}
+use Rattle.asked_steps.specs.declared.refusal.Refusal.{Refusal as RefusedAsked}
 use Rattle.step_session.specs.Scripts.{most_bytes, most_events, script_text}
 use Rattle.step_session.specs.Texts.{able_name, able_recv, invalid_text, refused_text, sized, step_text}
-use Rattle.step_session.specs.declared.refusal.Refusal.{Refusal}
 use Rattle.step_session.specs.declared.refusal.Refusal.TheVariants as refusal
 
 -- ---- steps
 
--- the history with an actor's step, which is an event unless it is a skip
-abbrev pub with_step : Actor → What → List Event → List Event
-with_step who what K = if skips what then K else ev who what ∷ K
-
+-- an actor's step, and the line of it
 abbrev pub stepped : List Event → Actor → What → List Event × List ℕ
 stepped K who what = (with_step who what K, step_text K who what)
 
+-- what is told of a task that was to step
+abbrev pub task_told : Script → List Event → Name → List ℕ
+task_told S K n = if is_made K n then step_text K (Task n) (task_step (system_of S) K n) else refused_text refusal.NoTask
+
 abbrev pub task_answer : Script → List Event → Name → List Event × List ℕ
-task_answer S K n = if is_made K n then stepped K (Task n) (task_step (system_of S) K n) else (K, refused_text refusal.NoTask)
+task_answer S K n = (after_task S K n, task_told S K n)
 
-abbrev pub deed_answer : Script → List Event → ℕ → Option Deed → List Event × List ℕ
-deed_answer S K w None = (K, invalid_text)
-deed_answer S K w (Some d) = stepped K (Worker w) (deed_step (system_of S) K w d)
+-- what is told of a worker's deed, and where the listener refuses the structure
+abbrev pub deed_told : Script → List Event → ℕ → Option Deed → List ℕ
+deed_told S K w None = invalid_text
+deed_told S K w (Some d) = step_text K (Worker w) (deed_step (system_of S) K w d)
 
-abbrev pub worker_answer : Script → List Event → ℕ → Asked → Option Refusal → List Event × List ℕ
-worker_answer S K w asked (Some why) = (K, refused_text why)
-worker_answer S K w asked None = deed_answer S K w (deed_of asked)
+-- what is told of what a worker asked for, unless it was refused
+abbrev pub asked_told : Script → List Event → ℕ → Asked → Option RefusedAsked → List ℕ
+asked_told S K w asked (Some why) = refused_text (refusal.Asked why)
+asked_told S K w asked None = deed_told S K w (deed_of asked)
+
+abbrev pub worker_answer : Script → List Event → ℕ → Asked → List Event × List ℕ
+worker_answer S K w asked = (after_asked S K w asked, asked_told S K w asked (refused K w asked))
 
 -- ---- what is told without a step
 
@@ -92,7 +98,7 @@ judge_text P S K idle = sized (codes "judge") (head_text K (judged P S K idle))
 abbrev pub open_answer : Origin → Script → List Event → StepRequest → List Event × List ℕ
 open_answer P S K step.Able = (K, able_text S K)
 open_answer P S K (step.Task n) = task_answer S K n
-open_answer P S K (step.Worker w asked) = worker_answer S K w asked (refused K w asked)
+open_answer P S K (step.Worker w asked) = worker_answer S K w asked
 open_answer P S K step.Report = (K, report_text P K)
 open_answer P S K step.Script = (K, script_answer P K)
 open_answer P S K (step.Judge idle) = (K, judge_text P S K idle)
@@ -115,7 +121,3 @@ abbrev pub IsAsked : StepRequest → Type 0
 IsAsked (step.Task n) = is_task_name n ≡ true
 IsAsked (step.Worker w asked) = w ≤ 15
 IsAsked r = Unit {0}
-
--- a history of the kernel, whoever its workers are, with its first event at least
-abbrev pub IsBegun : Script → List Event → Type 0
-IsBegun S K = (0 < length K) × IsOfKernel (system_of S) K

@@ -3,10 +3,10 @@ use Rattle.std.specs.Prelude.{◌≡◌, ℕ, false, List, [], ◌∷◌, ◌++�
 use Rattle.hist_model.specs.Kinds.{closes}
 use Rattle.hist_model.specs.declared.event.Event.{Event}
 use Rattle.hist_model.specs.declared.script.Script.{Script}
-use Rattle.judge_pass.specs.Closed.{is_closed}
+use Rattle.asked_steps.specs.Steps.{IsBegun, is_closed}
 use Rattle.judge_pass.specs.Finding.{Watches}
 use Rattle.step_requests.specs.declared.request.StepRequest.{StepRequest}
-use Rattle.step_session.specs.Answers.{IsBegun, answered}
+use Rattle.step_session.specs.Answers.{answered}
 use Rattle.step_session.specs.Stands.{Stands}
 use Rattle.step_session.specs.declared.judged.JudgedContainer.{JudgedContainer}
 use Rattle.step_session.specs.declared.origin.Origin.{Origin}

@@ -2,7 +2,6 @@ pub mod Lines
 pub mod Scripts
 pub mod Owing
 pub mod Serving
-pub mod Asking
 pub mod Answers
 pub mod Reasons
 pub mod Texts

@@ -13,6 +13,8 @@ use Rattle.hist_model.specs.declared.event.What.TheVariants.{Read, Recv}
 use Rattle.step_requests.specs.declared.fault.LineFault.{LineFault}
 use Rattle.step_requests.specs.declared.fault.LineFault.TheVariants as fault
 use Rattle.sys_abi.specs.declared.wire.Notif.{Notif}
+use Rattle.asked_steps.specs.declared.refusal.Refusal.{Refusal as RefusedAsked}
+use Rattle.asked_steps.specs.declared.refusal.Refusal.TheVariants as asked
 use Rattle.step_session.specs.declared.refusal.Refusal.{Refusal}
 use Rattle.step_session.specs.declared.refusal.Refusal.TheVariants as refusal
 use Rattle.step_session.specs.Reasons.{reason_text}
@@ -53,12 +55,16 @@ step_text K who what = if skips what then codes "skip\n" else event_text (length
 
 -- ---- refusals
 
+-- why what a worker asks for isn't done
+abbrev pub asked_text : RefusedAsked → List ℕ
+asked_text asked.MemoryIsOpen = codes "memory is open"
+asked_text asked.NoMemoryIsOpen = codes "no memory is open"
+asked_text asked.RequestIsPut = codes "request is put"
+asked_text asked.NoRequest = codes "no request"
+
 abbrev pub refusal_text : Refusal → List ℕ
 refusal_text refusal.NoTask = codes "no task"
-refusal_text refusal.MemoryIsOpen = codes "memory is open"
-refusal_text refusal.NoMemoryIsOpen = codes "no memory is open"
-refusal_text refusal.RequestIsPut = codes "request is put"
-refusal_text refusal.NoRequest = codes "no request"
+refusal_text (refusal.Asked why) = asked_text why
 refusal_text refusal.Closed = codes "closed"
 refusal_text refusal.Full = codes "full"
 

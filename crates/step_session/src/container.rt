@@ -9,19 +9,18 @@ ghost use Rattle.step_session.specs.declared.origin.Origin.{Origin as OriginValu
 ghost use Rattle.hist_model.specs.declared.script.Script.{Script as ScriptValue};
 ghost use Rattle.model_kernel.specs.Kernels.{IsKernel, past};
 ghost use Rattle.step_session.specs.Answers.{task_answer, worker_answer};
-ghost use Rattle.step_session.specs.Asking.{refused};
 ghost use Rattle.step_session.specs.Stands.{Answers, IsAnswered, IsInOrder, Stands};
 ghost use Rattle.step_session.specs.Texts.{event_text};
 ghost use Rattle.step_session.specs.declared.container.State.TheVariants.{Open};
 ghost use Rattle.step_requests.specs.declared.request.StepRequest.TheVariants as step;
 
 use crate::able::push_who_is_able;
-use crate::asking::{Came, ask};
 use crate::origin::Origin;
 use crate::refusal::Refusal;
 use crate::reports::push_report;
 use crate::scripts::push_script;
 use crate::texts::{push_event, push_refusal};
+use asked_steps::{Came, ask};
 use audit_log::line::LineBuffer;
 use hist_model::history::History;
 use hist_model::text::TaskName;
@@ -88,10 +87,10 @@ fn answer_worker(
 ) -> Result<(), NoMemory>
     requires kernel { IsKernel kernel.old }
     requires worker { worker ≤ 16 }
-    ensures { OnOk result (Answers kernel.old (worker_answer kernel.old.script (past kernel.old) worker asked.now (refused (past kernel.old) worker asked.now)) line.old line.new kernel.new) }
+    ensures { OnOk result (Answers kernel.old (worker_answer kernel.old.script (past kernel.old) worker asked.now) line.old line.new kernel.new) }
 {
     match ask(alloc, kernel, worker, asked)? {
-        Came::Refused(why) => push_refusal(line, why),
+        Came::Refused(why) => push_refusal(line, Refusal::Asked(why)),
         Came::Invalid => line.push("error EINVAL\n"),
         Came::Waits => line.push("skip\n"),
         Came::Stepped => push_newest(line, kernel.history()),

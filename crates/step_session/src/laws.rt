@@ -5,7 +5,8 @@ ghost use Rattle.hist_model.specs.Legal.{OfKernel, started};
 ghost use Rattle.hist_model.specs.declared.event.Event.{Event};
 ghost use Rattle.step_session.specs.declared.origin.Origin.{Origin};
 ghost use Rattle.hist_model.specs.declared.script.Script.{Script};
-ghost use Rattle.step_session.specs.Answers.{IsAsked, IsBegun, answered};
+ghost use Rattle.asked_steps.specs.Steps.{IsBegun};
+ghost use Rattle.step_session.specs.Answers.{IsAsked, answered};
 ghost use Rattle.step_requests.specs.declared.request.StepRequest.{StepRequest};
 ghost use Rattle.step_session.specs.Lines.{history_after};
 

@@ -7,21 +7,18 @@
 //!
 //! [`serve`] answers all requests of a file. It reads pieces of bytes, answers the lines that end in a piece, and writes the
 //! answers, which are flushed before more is read. So a program may write one request and wait for its answer, or send many at
-//! once. Of a line that is too long nothing is kept, so memory stays bounded by what the container takes. [`step_task`] and
-//! [`do_asked`] are single steps without an answer.
+//! once. Of a line that is too long nothing is kept, so memory stays bounded by what the container takes.
 //!
-//! The definitions stand in `specs/`: `Asking.antt` says which deed a worker asks for and why it may be none, `Texts.antt` has the
-//! lines of answers, and `Answers.antt` all answers, each with the history after it; `Judged.antt` says when a container and its judge
-//! stand for a history, `Lines.antt` has the lines of the input and their answers, `Owing.antt` what a session has still to say, and
-//! `Serving.antt` what came of serving.
+//! The definitions stand in `specs/`: `Texts.antt` has the lines of answers, and `Answers.antt` all answers, each with the history
+//! after it; `Judged.antt` says when a container and its judge stand for a history, `Lines.antt` has the lines of the input and their
+//! answers, `Owing.antt` what a session has still to say, and `Serving.antt` what came of serving.
 //!
-//! Below stand the kernel (`model_kernel`), the judge (`judge_pass`), the reader of a line (`step_requests`), the writers of the report
-//! (`audit_log`), and files and sinks (`io_edge`).
+//! Below stand the kernel (`model_kernel`), the steps that are asked for (`asked_steps`), the judge (`judge_pass`), the reader of a line
+//! (`step_requests`), the writers of the report (`audit_log`), and files and sinks (`io_edge`).
 #![tactic(auto)]
 
 mod able;
 mod answering;
-mod asking;
 mod begun;
 mod container;
 pub mod fault;
@@ -35,10 +32,8 @@ mod reports;
 mod scripts;
 mod serving;
 mod session;
-mod steps;
 mod texts;
 
 pub use fault::StepFault;
 pub use origin::Origin;
 pub use serving::serve;
-pub use steps::{do_asked, step_task};

@@ -3,7 +3,7 @@
 ghost use Rattle.std.specs.Prelude.{◌≡◌, ◌++◌, false, IfOk, OnOk, codes};
 ghost use Rattle.std.specs.Fmt.{signed_decimal};
 ghost use Rattle.hist_model.specs.ReportWords.{hex};
-ghost use Rattle.judge_pass.specs.Closed.{is_closed};
+ghost use Rattle.asked_steps.specs.Steps.{is_closed};
 ghost use Rattle.step_session.specs.Answers.{script_answer};
 ghost use Rattle.step_session.specs.Lines.{has_end};
 ghost use Rattle.step_session.specs.Scripts as definitions;

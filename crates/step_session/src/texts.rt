@@ -1,7 +1,7 @@
 //! The lines of answers.
 
 ghost use Rattle.std.specs.Prelude.{◌≡◌, ◌++◌, OnOk};
-ghost use Rattle.step_session.specs.Texts.{event_front, event_text, fault_text, faulty_text, more_numbers, notif_text, numbers_text, refusal_text, refused_text, sized, told};
+ghost use Rattle.step_session.specs.Texts.{asked_text, event_front, event_text, fault_text, faulty_text, more_numbers, notif_text, numbers_text, refusal_text, refused_text, sized, told};
 
 use crate::reasons::reason_text;
 use crate::refusal::Refusal;
@@ -101,16 +101,25 @@ pub(crate) fn push_sized(line: &mut LineBuffer, word: &str, text: &[u8]) -> Resu
     line.push_bytes(text)
 }
 
+/// The text of why what a worker asks for isn't done.
+fn asked_text(why: asked_steps::Refusal) -> &'static str
+    ensures { result.now ≡ asked_text why }
+{
+    match why {
+        asked_steps::Refusal::MemoryIsOpen => "memory is open",
+        asked_steps::Refusal::NoMemoryIsOpen => "no memory is open",
+        asked_steps::Refusal::RequestIsPut => "request is put",
+        asked_steps::Refusal::NoRequest => "no request",
+    }
+}
+
 /// The text of a refusal.
 fn refusal_text(why: Refusal) -> &'static str
     ensures { result.now ≡ refusal_text why }
 {
     match why {
         Refusal::NoTask => "no task",
-        Refusal::MemoryIsOpen => "memory is open",
-        Refusal::NoMemoryIsOpen => "no memory is open",
-        Refusal::RequestIsPut => "request is put",
-        Refusal::NoRequest => "no request",
+        Refusal::Asked(why) => asked_text(why),
         Refusal::Closed => "closed",
         Refusal::Full => "full",
     }

@@ -8,7 +8,7 @@ use Rattle.step_session.specs.declared.origin.Origin.{Origin}
 use Rattle.hist_model.specs.declared.script.Script.{Script}
 use Rattle.io_edge.specs.FileState.{FileState, SameFiles}
 use Rattle.io_edge.specs.SinkState.{SinkState}
-use Rattle.step_session.specs.Answers.{IsBegun}
+use Rattle.asked_steps.specs.Steps.{IsBegun}
 use Rattle.step_session.specs.Lines.{all_answers, history_after}
 use Rattle.step_session.specs.Serving.{TookAll}
 use Rattle.program_files.specs.Inputs.{PolicyIs, ScriptIs}

@@ -9,7 +9,7 @@ use Rattle.hist_model.specs.declared.policy.Policy.{Policy}
 use Rattle.hist_model.specs.declared.script.Script.{Script}
 use Rattle.script_reader.specs.declared.file.ScriptFile.{ScriptFile}
 use Rattle.step_requests.specs.declared.request.Turn.{Turn}
-use Rattle.step_session.specs.Answers.{IsBegun}
+use Rattle.asked_steps.specs.Steps.{IsBegun}
 use Rattle.turn_player.specs.Turns.{turned}
 use Rattle.play_words.specs.Printings.{Printing}
 

@@ -7,7 +7,7 @@ use Rattle.hist_model.specs.declared.script.Script.{Script}
 use Rattle.io_edge.specs.Faults.{Rose}
 use Rattle.io_edge.specs.FileState.{FileState}
 use Rattle.io_edge.specs.SinkState.{SinkState}
-use Rattle.step_session.specs.Answers.{IsBegun}
+use Rattle.asked_steps.specs.Steps.{IsBegun}
 use Rattle.step_session.specs.Lines.{history_after}
 use Rattle.step_session.specs.Serving.{TookAll, TookPart}
 use Rattle.program_files.specs.Inputs.{PolicyIs, ScriptIs}

@@ -21,7 +21,7 @@ use Rattle.judge_pass.specs.declared.watch.Watch.{Watch}
 use Rattle.model_kernel.specs.Kernels.{IsBegun, past}
 use Rattle.model_kernel.specs.declared.kernel.Kernel.{Kernel}
 use Rattle.step_requests.specs.declared.request.Turn.{Turn}
-use Rattle.step_session.proofs.Histories.{started_begun}
+use Rattle.asked_steps.proofs.Kept.{started_begun}
 use Rattle.turn_player.specs.Judged.{GoesOnFrom, IsPlayed, IsWatched, StopsAt}
 use Rattle.turn_player.specs.Turns.{after_turns, turned}
 use Rattle.turn_player.specs.declared.judged.Court.{Court}

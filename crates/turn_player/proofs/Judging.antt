@@ -15,7 +15,9 @@ use Rattle.hist_model.specs.declared.event.Event.{Event}
 use Rattle.hist_model.specs.declared.event.What.{What}
 use Rattle.hist_model.specs.declared.policy.Policy.{Policy}
 use Rattle.hist_model.specs.declared.script.Script.{Script}
-use Rattle.judge_pass.specs.Closed.{is_closed}
+use Rattle.asked_steps.specs.Asking.{deed_of, refused}
+use Rattle.asked_steps.specs.Steps.{IsBegun, after_deed, after_task, after_unless, is_closed, with_step}
+use Rattle.judge_pass.specs.Closed.{is_closed as is_closed_to_judges}
 use Rattle.judge_pass.proofs.Found.{found_newest}
 use Rattle.judge_pass.specs.Finding.{as_finding, finding, Watches}
 use Rattle.judge_pass.specs.Stands.{IsHistory}
@@ -26,9 +28,7 @@ use Rattle.model_kernel.specs.declared.kernel.Kernel.{Kernel}
 use Rattle.step_requests.specs.declared.request.Asked.{Asked}
 use Rattle.step_requests.specs.declared.request.Turn.{Turn}
 use Rattle.step_requests.specs.declared.request.Turn.TheVariants as turn
-use Rattle.step_session.specs.Answers.{IsBegun, deed_answer, task_answer, with_step, worker_answer}
-use Rattle.step_session.specs.Asking.{deed_of, refused}
-use Rattle.step_session.specs.Stands.{CameTo}
+use Rattle.asked_steps.specs.Stands.{CameTo}
 use Rattle.turn_player.specs.Judged.{GoesOnFrom, IsNewer, IsPlayed, IsWatched, requested, StopsAt}
 use Rattle.turn_player.specs.Turns.{after_times, after_turn, is_allowed, next_deed, served, stepped}
 use Rattle.turn_player.specs.declared.judged.Court.{Court}
@@ -50,7 +50,7 @@ step-grows who what K = by (skips what) refl
 pub task_grows : (S : Script) (n : Name) (K : List Event) → Grows K (stepped S n K)
 task_grows S n K = by (is_made K n) refl
   where
-    by : (b : Bool) → is_made K n ≡ b → Grows K (task_answer S K n).0
+    by : (b : Bool) → is_made K n ≡ b → Grows K (after_task S K n)
     by true q = rw q (step-grows (Task n) (task_step (system_of S) K n) K)
     by false q = inl (rw q refl)
 
@@ -61,12 +61,12 @@ served_grows P S w K = by (is_allowed K w (next_deed P S w K)) refl
     by true q = rw q (step-grows (Worker w) (worker_step (system_of S) (rules_of P S.figures) K w) K)
     by false q = inl (rw q refl)
 
-deed-grows : (S : Script) (K : List Event) (w : ℕ) (d : Option Deed) → Grows K (deed_answer S K w d).0
+deed-grows : (S : Script) (K : List Event) (w : ℕ) (d : Option Deed) → Grows K (after_deed S K w d)
 deed-grows S K w None = inl refl
 deed-grows S K w (Some d) = step-grows (Worker w) (deed_step (system_of S) K w d) K
 
 pub request_grows : (S : Script) (w : ℕ) (asked : Asked) (K : List Event) → Grows K (requested S w asked K)
-request_grows S w asked K = elim (refused K w asked) as (λ why. Grows K (worker_answer S K w asked why).0) [
+request_grows S w asked K = elim (refused K w asked) as (λ why. Grows K (after_unless S K w asked why)) [
   | Some why ↦ inl refl
   | None ↦ deed-grows S K w (deed_of asked)
 ]
@@ -102,6 +102,11 @@ both-found None q some = cc
 both-found (Some f) q some = cc
 
 -- ---- one step
+
+-- the judge asks the same of a history
+pub closed_alike : (K : List Event) → is_closed_to_judges K ≡ is_closed K
+closed_alike [] = refl
+closed_alike (e ∷ K) = refl
 
 -- a history of the kernel with few events
 pub few_events : (S : Script) (K : List Event) → IsBegun S K → length K < 2 ^ 62 → IsHistory S K

@@ -26,9 +26,9 @@ use Rattle.step_requests.specs.Turns.{AreApart, asks, serves}
 use Rattle.step_requests.specs.declared.request.Asked.{Asked}
 use Rattle.step_requests.specs.declared.request.Turn.{Turn}
 use Rattle.step_requests.specs.declared.request.Turn.TheVariants as turn
-use Rattle.step_session.specs.Answers.{deed_answer, task_answer, with_step, worker_answer}
-use Rattle.step_session.specs.Asking.{deed_of, refused}
-use Rattle.step_session.specs.Stands.{CameTo}
+use Rattle.asked_steps.specs.Asking.{deed_of, refused}
+use Rattle.asked_steps.specs.Steps.{after_asked, after_deed, after_task, after_unless, with_step}
+use Rattle.asked_steps.specs.Stands.{CameTo}
 use Rattle.turn_player.specs.Serving.{Knows, OthersAsBefore, ServerKnows, ServersKnow}
 use Rattle.turn_player.specs.Turns.{IsTurn, after_times, after_turn, after_turns, is_allowed, next_deed, served, stepped}
 use Rattle.turn_player.proofs.Times.{times_keep}
@@ -77,10 +77,10 @@ module _ (S : Script) (w : ℕ) where
   abbrev IsAs : List Event → List Event → Type 0
   IsAs K H = session H w ≡ session K w
 
-  task-other : (n : Name) (K : List Event) → IsAs K (task_answer S K n).0
+  task-other : (n : Name) (K : List Event) → IsAs K (after_task S K n)
   task-other n K = by (is_made K n) refl
     where
-      by : (b : Bool) → is_made K n ≡ b → IsAs K (task_answer S K n).0
+      by : (b : Bool) → is_made K n ≡ b → IsAs K (after_task S K n)
       by true q = rw q (step-other K (actor.Task n) (task_step (system_of S) K n) w refl)
       by false q = rw q refl
 
@@ -91,12 +91,12 @@ module _ (S : Script) (w : ℕ) where
       by true q = rw q (step-other K (actor.Worker v) _ w other)
       by false q = rw q refl
 
-  deed-other : (v : ℕ) (K : List Event) (d : Option Deed) → (v == w) ≡ false → IsAs K (deed_answer S K v d).0
+  deed-other : (v : ℕ) (K : List Event) (d : Option Deed) → (v == w) ≡ false → IsAs K (after_deed S K v d)
   deed-other v K None other = refl
   deed-other v K (Some d) other = step-other K (actor.Worker v) (deed_step (system_of S) K v d) w other
 
-  asked-other : (v : ℕ) (K : List Event) (asked : Asked) → (v == w) ≡ false → IsAs K (worker_answer S K v asked (refused K v asked)).0
-  asked-other v K asked other = elim (refused K v asked) as (λ why. IsAs K (worker_answer S K v asked why).0) [
+  asked-other : (v : ℕ) (K : List Event) (asked : Asked) → (v == w) ≡ false → IsAs K (after_asked S K v asked)
+  asked-other v K asked other = elim (refused K v asked) as (λ why. IsAs K (after_unless S K v asked why)) [
     | Some why ↦ refl
     | None ↦ deed-other v K (deed_of asked) other
   ]

@@ -25,8 +25,8 @@ use Rattle.hist_model.specs.declared.script.Figures.{Figures}
 use Rattle.hist_model.specs.declared.script.Script.{Script}
 use Rattle.model_kernel.specs.Kernels.{IsKernel, past}
 use Rattle.model_kernel.specs.declared.kernel.Kernel.{Kernel}
-use Rattle.step_session.specs.Answers.{with_step}
-use Rattle.step_session.specs.Stands.{CameTo}
+use Rattle.asked_steps.specs.Steps.{with_step}
+use Rattle.asked_steps.specs.Stands.{CameTo}
 use Rattle.turn_player.specs.Serving.{Knows}
 use Rattle.turn_player.specs.Turns.{is_allowed, next_deed, served}
 

@@ -5,7 +5,7 @@ use Rattle.hist_model.specs.declared.event.Event.{Event}
 use Rattle.hist_model.specs.declared.script.Script.{Script}
 use Rattle.model_kernel.specs.Kernels.{IsKernel, past}
 use Rattle.model_kernel.specs.declared.kernel.Kernel.{Kernel}
-use Rattle.step_session.specs.Stands.{CameTo}
+use Rattle.asked_steps.specs.Stands.{CameTo}
 use Rattle.turn_player.specs.Turns.{after_times}
 
 pub came-here : (k : Kernel) → IsKernel k → CameTo k (past k) k

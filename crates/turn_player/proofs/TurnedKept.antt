@@ -16,13 +16,9 @@ use Rattle.hist_model.specs.declared.script.Script.{Script}
 use Rattle.step_requests.specs.declared.request.Asked.{Asked}
 use Rattle.step_requests.specs.declared.request.Turn.{Turn}
 use Rattle.step_requests.specs.declared.request.Turn.TheVariants as turn
-use Rattle.judge_pass.specs.Closed.{is_closed}
-use Rattle.step_session.specs.Answers.{IsBegun, with_step, worker_answer}
-use Rattle.step_session.specs.Asking.{refused}
-use Rattle.step_session.proofs.Histories.{started_begun}
-use Rattle.step_session.proofs.Kept.{step_kept, task_kept, worker_kept}
-use Rattle.step_session.proofs.Told.{open_kept_step, task_keeps_open, worker_keeps_open}
-use Rattle.step_session.proofs.Unclosed.{deed_unclosed}
+use Rattle.asked_steps.specs.Steps.{IsBegun, after_asked, is_closed, with_step}
+use Rattle.asked_steps.proofs.Kept.{asked_keeps_open, asked_kept, open_kept_step, started_begun, step_kept, task_keeps_open, task_kept}
+use Rattle.asked_steps.proofs.Unclosed.{deed_unclosed}
 use Rattle.turn_player.specs.Turns.{IsTurn, after_turn, after_turns, is_allowed, next_deed, served, stepped, turned}
 use Rattle.turn_player.proofs.Lines.{head_is, tail_is}
 use Rattle.turn_player.proofs.Times.{times_keep}
@@ -51,9 +47,9 @@ served-goes-on P S w number K on = step-goes-on P S w number K (is_allowed K w (
 pub low : (w : ℕ) → w ≤ 15 → nat_le w 16 ≡ true
 low w l = le-leb w 16 (omega (arith, l))
 
-pub request-goes-on : (S : Script) (w : ℕ) (asked : Asked) → w ≤ 15 → (K : List Event) → GoesOn S K → GoesOn S (worker_answer S K w asked (refused K w asked)).0
+pub request-goes-on : (S : Script) (w : ℕ) (asked : Asked) → w ≤ 15 → (K : List Event) → GoesOn S K → GoesOn S (after_asked S K w asked)
 request-goes-on S w asked number K (begun, open-still) =
-    (worker_kept S K w asked (refused K w asked) (low w number) begun open-still, worker_keeps_open S K w asked (refused K w asked) open-still)
+    (asked_kept S K w asked (low w number) begun open-still, asked_keeps_open S K w asked open-still)
 
 turn-goes-on : (P : Policy) (S : Script) (K : List Event) (t : Turn) → IsTurn t → GoesOn S K → GoesOn S (after_turn P S K t)
 turn-goes-on P S K (turn.Steps n count) name on = times_keep (GoesOn S) (stepped S n) (task-goes-on S n name) K count on

@@ -3,15 +3,13 @@ use Rattle.std.specs.Prelude.{◌≡◌, ◌⊎◌, ℕ, suc, false, List, ◌�
 use Rattle.broker_core.specs.declared.worker.Worker.{Worker}
 use Rattle.hist_model.specs.declared.event.Event.{Event}
 use Rattle.hist_model.specs.declared.policy.Policy.{Policy}
-use Rattle.judge_pass.specs.Closed.{is_closed}
 use Rattle.judge_pass.specs.Finding.{Watches}
 use Rattle.judge_pass.specs.declared.watch.FirstFault.{FirstFault}
 use Rattle.model_kernel.specs.Kernels.{IsKernel, past}
 use Rattle.hist_model.specs.declared.script.Script.{Script}
 use Rattle.step_requests.specs.declared.request.Asked.{Asked}
 use Rattle.step_requests.specs.declared.request.Turn.{Turn}
-use Rattle.step_session.specs.Answers.{IsBegun, worker_answer}
-use Rattle.step_session.specs.Asking.{refused}
+use Rattle.asked_steps.specs.Steps.{IsBegun, after_asked, is_closed}
 use Rattle.turn_player.specs.Serving.{Knows, ServerKnows, ServersKnow}
 use Rattle.turn_player.specs.declared.judged.Court.{Court}
 
@@ -51,7 +49,7 @@ pub record IsNewer (P : Policy) (c : Court) (heard : ℕ) : Type 0 where
 
 -- what a worker of another broker asks for
 abbrev pub requested : Script → ℕ → Asked → List Event → List Event
-requested S w asked K = (worker_answer S K w asked (refused K w asked)).0
+requested S w asked K = after_asked S K w asked
 
 -- ---- what workers remember
 

@@ -17,8 +17,7 @@ use Rattle.hist_model.specs.declared.script.Script.{Script}
 use Rattle.hist_model.specs.declared.script.Step.{Step}
 use Rattle.step_requests.specs.declared.request.Turn.{Turn}
 use Rattle.step_requests.specs.declared.request.Turn.TheVariants as turn
-use Rattle.step_session.specs.Answers.{task_answer, with_step, worker_answer}
-use Rattle.step_session.specs.Asking.{refused}
+use Rattle.asked_steps.specs.Steps.{after_asked, after_task, with_step}
 
 -- ---- steps
 
@@ -29,7 +28,7 @@ after_times f K (suc count) = f (after_times f K count)
 
 -- the history after a task's step; one that it can't make leaves nothing
 abbrev pub stepped : Script → Name → List Event → List Event
-stepped S n K = (task_answer S K n).0
+stepped S n K = after_task S K n
 
 -- what a worker of this project does next
 abbrev pub next_deed : Policy → Script → ℕ → List Event → Deed
@@ -64,7 +63,7 @@ turn_of step = turn_by step.who step.count
 abbrev pub after_turn : Policy → Script → List Event → Turn → List Event
 after_turn P S K (turn.Steps n count) = after_times (stepped S n) K count
 after_turn P S K (turn.Serves w count) = after_times (served P S w) K count
-after_turn P S K (turn.Asks w asked) = (worker_answer S K w asked (refused K w asked)).0
+after_turn P S K (turn.Asks w asked) = after_asked S K w asked
 
 -- the history after lines
 unfoldable pub after_turns : Policy → Script → List Event → List Turn → List Event

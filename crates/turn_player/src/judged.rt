@@ -11,13 +11,13 @@ ghost use Rattle.judge_pass.specs.Finding.{as_finding, finding};
 ghost use Rattle.model_kernel.specs.Kernels.{IsKernel, past};
 ghost use Rattle.model_kernel.specs.Kernels.{IsBegun as IsBegunKernel};
 ghost use Rattle.step_requests.specs.Turns.{AreApart};
-ghost use Rattle.judge_pass.specs.Closed.{is_closed};
-ghost use Rattle.step_session.specs.Answers.{IsBegun};
+ghost use Rattle.asked_steps.specs.Steps.{IsBegun, is_closed};
 ghost use Rattle.turn_player.specs.Judged.{GoesOnFrom, IsNewer, IsPlayed, IsWatched, requested, ServersStillKnow, ServerStillKnows, StillKnows, StopsAt};
 ghost use Rattle.turn_player.specs.Serving.{OthersAsBefore};
 ghost use Rattle.turn_player.specs.Turns.{IsTurn, after_times, after_turn, after_turns, served, stepped, turned};
 
 use crate::serving::{idle_workers, serve};
+use asked_steps::{do_asked, step_task};
 use audit_log::line::LineBuffer;
 use broker_core::worker::Worker;
 use hist_model::history::History;
@@ -30,7 +30,6 @@ use judge_pass::why::push_fault;
 use model_kernel::Kernel;
 use std::alloc::Global;
 use step_requests::{Asked, Turn};
-use step_session::{do_asked, step_task};
 use sys_abi::memory::NoMemory;
 
 /// What is found of a broker whose schedule was played.

@@ -5,7 +5,7 @@ ghost use Rattle.std.specs.List.{All};
 ghost use Rattle.hist_model.specs.declared.policy.Policy.{Policy};
 ghost use Rattle.hist_model.specs.declared.script.Script.{Script};
 ghost use Rattle.step_requests.specs.declared.request.Turn.{Turn};
-ghost use Rattle.step_session.specs.Answers.{IsBegun};
+ghost use Rattle.asked_steps.specs.Steps.{IsBegun};
 ghost use Rattle.turn_player.specs.Turns.{IsTurn, turned};
 
 /// Whatever the lines of a schedule are, the history that they play is one of the kernel.

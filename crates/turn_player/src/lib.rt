@@ -14,8 +14,8 @@
 //! The definitions stand in `specs/`: `Turns.antt` has the history that lines come to, `Serving.antt` what the workers of this
 //! project remember on the way, and `Judged.antt` how far a play goes that is judged.
 //!
-//! Below stand the kernel (`model_kernel`), this project's workers (`broker_core`) with their turns (`broker_machine`), the steps
-//! of tasks and of other brokers' workers (`step_session`), and the judge (`judge_pass`).
+//! Below stand the kernel (`model_kernel`), this project's workers (`broker_core`) with their turns (`broker_machine`), and the steps
+//! of tasks and of other brokers' workers (`asked_steps`). The judge (`judge_pass`) serves `play_judged` alone.
 #![tactic(auto)]
 
 mod judged;

@@ -4,7 +4,7 @@ ghost use Rattle.std.specs.Prelude.{◌≡◌, ◌≤◌, [], length, IfOk, OnOk
 ghost use Rattle.broker_machine.specs.Workers.{AllRemember};
 ghost use Rattle.hist_model.specs.declared.policy.Policy.{Policy as PolicyValue};
 ghost use Rattle.model_kernel.specs.Kernels.{IsKernel, past};
-ghost use Rattle.step_session.specs.Stands.{CameTo};
+ghost use Rattle.asked_steps.specs.Stands.{CameTo};
 ghost use Rattle.turn_player.specs.Serving.{Knows};
 ghost use Rattle.turn_player.specs.Turns.{after_times, is_allowed, served};
 

@@ -4,11 +4,12 @@ ghost use Rattle.std.specs.Prelude.{◌≡◌, ◌≤◌, length, IfOk, OnOk};
 ghost use Rattle.std.specs.List.{All};
 ghost use Rattle.model_kernel.specs.Kernels.{IsKernel, past};
 ghost use Rattle.step_requests.specs.Turns.{AreApart};
-ghost use Rattle.step_session.specs.Stands.{CameTo};
+ghost use Rattle.asked_steps.specs.Stands.{CameTo};
 ghost use Rattle.turn_player.specs.Serving.{OthersAsBefore, ServerKnows, ServersKnow};
 ghost use Rattle.turn_player.specs.Turns.{IsTurn, after_times, after_turn, after_turns, stepped, turned};
 
 use crate::serving::{idle_workers, serve_often};
+use asked_steps::{do_asked, step_task};
 use broker_core::worker::Worker;
 use hist_model::history::History;
 use hist_model::policy::Policy;
@@ -17,7 +18,6 @@ use hist_model::text::TaskName;
 use model_kernel::Kernel;
 use std::alloc::Global;
 use step_requests::Turn;
-use step_session::{do_asked, step_task};
 use sys_abi::memory::NoMemory;
 
 /// Lets the task of a name make so many steps, each if it can.

@@ -1,6 +1,6 @@
 -- The worker has made the steps so far, and remembers them.
 use Rattle.model_kernel.specs.Kernels.{past}
-use Rattle.step_session.specs.Stands.{CameTo}
+use Rattle.asked_steps.specs.Stands.{CameTo}
 use Rattle.turn_player.specs.Serving.{Knows}
 use Rattle.turn_player.specs.Turns.{after_times, served}
 use Rattle.turn_player.proofs.serving.serve_often.Given as goal

@@ -1,6 +1,6 @@
 -- The task has made the steps so far.
 use Rattle.model_kernel.specs.Kernels.{past}
-use Rattle.step_session.specs.Stands.{CameTo}
+use Rattle.asked_steps.specs.Stands.{CameTo}
 use Rattle.turn_player.specs.Turns.{after_times, stepped}
 use Rattle.turn_player.proofs.turns.step_often.Given as goal
 

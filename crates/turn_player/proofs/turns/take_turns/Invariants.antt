@@ -3,7 +3,7 @@ use Rattle.std.proofs.Common.{◌≡◌, length}
 use Rattle.std.specs.List.{All}
 use Rattle.model_kernel.specs.Kernels.{past}
 use Rattle.step_requests.specs.Turns.{AreApart}
-use Rattle.step_session.specs.Stands.{CameTo}
+use Rattle.asked_steps.specs.Stands.{CameTo}
 use Rattle.turn_player.specs.Serving.{ServersKnow}
 use Rattle.turn_player.specs.Turns.{IsTurn, after_turns}
 use Rattle.turn_player.proofs.turns.take_turns.Given as goal

@@ -1,6 +1,7 @@
 use Rattle.step_session.specs.declared.origin.Origin.{Origin}
 use Rattle.step_requests.specs.declared.request.StepRequest.TheVariants as step
-use Rattle.step_session.proofs.Told.{answered_open, on_ok, task_keeps_open}
+use Rattle.asked_steps.proofs.Kept.{task_keeps_open}
+use Rattle.step_session.proofs.Told.{answered_open, on_ok}
 use Rattle.step_session.proofs.container.Container.task.Goals as goal
 
 pub returns-in-Open : goal.returns-in-Open

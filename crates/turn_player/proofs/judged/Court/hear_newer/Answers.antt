@@ -2,7 +2,7 @@
 use Rattle.std.proofs.Common.{length, ap, refl, sym, ◌∙◌}
 use Rattle.hist_model.specs.declared.history.History.{History}
 use Rattle.model_kernel.specs.Kernels.{past}
-use Rattle.turn_player.proofs.Judging.{few_events, heard_all, heard_before, heard_one}
+use Rattle.turn_player.proofs.Judging.{closed_alike, few_events, heard_all, heard_before, heard_one}
 use Rattle.turn_player.proofs.judged.Court.hear_newer.Goals as goal
 
 pub returns-then-len-heard : goal.returns-then-len-heard
@@ -21,7 +21,7 @@ hear-requires c =
     record {
       kernel = c.requires.kernel;
       history = few_events court.kernel.script (past court.kernel) c.requires.begun c.has_few_events.ensures;
-      goes_on = c.requires.open_still;
+      goes_on = closed_alike (past court.kernel) ∙ c.requires.open_still;
       watches = heard_before c.args.policy.now court c.args.heard c.requires.newer (λ same. c.if-len-heard.false (number ∙ same));
     }
 

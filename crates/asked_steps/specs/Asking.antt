@@ -10,8 +10,8 @@ use Rattle.model_kernel.specs.Wire.{are_zeros, send_of}
 use Rattle.step_requests.specs.declared.request.Asked.{Asked}
 use Rattle.step_requests.specs.declared.request.Asked.TheVariants as asks
 use Rattle.sys_abi.specs.Wire.{addfd_of, resp_of}
-use Rattle.step_session.specs.declared.refusal.Refusal.{Refusal}
-use Rattle.step_session.specs.declared.refusal.Refusal.TheVariants as refusal
+use Rattle.asked_steps.specs.declared.refusal.Refusal.{Refusal}
+use Rattle.asked_steps.specs.declared.refusal.Refusal.TheVariants as refusal
 
 abbrev pub if_so : Bool → Refusal → Option Refusal
 if_so b why = if b then Some why else None

@@ -1,9 +1,9 @@
 use Rattle.std.proofs.Common.{List, ℕ, subst}
 use Rattle.step_requests.specs.declared.request.Asked.TheVariants as asks
-use Rattle.step_session.specs.Stands.{Comes}
-use Rattle.step_session.specs.declared.asking.Came.TheVariants as came
-use Rattle.step_session.proofs.Asked.{planted}
-use Rattle.step_session.proofs.asking.plant.Goals as goal
+use Rattle.asked_steps.specs.Stands.{Comes}
+use Rattle.asked_steps.specs.declared.asking.Came.TheVariants as came
+use Rattle.asked_steps.proofs.Asked.{planted}
+use Rattle.asked_steps.proofs.asking.plant.Goals as goal
 
 pub returns : goal.returns
 returns c =

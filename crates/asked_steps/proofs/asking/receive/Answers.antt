@@ -1,9 +1,9 @@
 use Rattle.std.proofs.Common.{subst, sym, ◌∙◌}
 use Rattle.model_kernel.proofs.Buffers.{zeros}
 use Rattle.step_requests.specs.declared.request.Asked.TheVariants as asks
-use Rattle.step_session.specs.Stands.{Comes}
-use Rattle.step_session.proofs.Asked.{no_error, received}
-use Rattle.step_session.proofs.asking.receive.Goals as goal
+use Rattle.asked_steps.specs.Stands.{Comes}
+use Rattle.asked_steps.proofs.Asked.{no_error, received}
+use Rattle.asked_steps.proofs.asking.receive.Goals as goal
 
 pub returns : goal.returns
 returns c =

@@ -1,10 +1,9 @@
-//! The steps of tasks and of workers alone, without the lines of their answers.
+//! The steps of tasks and of workers, without what they came to.
 
 ghost use Rattle.std.specs.Prelude.{◌≤◌, OnOk};
 ghost use Rattle.model_kernel.specs.Kernels.{IsKernel, past};
-ghost use Rattle.step_session.specs.Answers.{task_answer, worker_answer};
-ghost use Rattle.step_session.specs.Asking.{refused};
-ghost use Rattle.step_session.specs.Stands.{CameTo};
+ghost use Rattle.asked_steps.specs.Stands.{CameTo};
+ghost use Rattle.asked_steps.specs.Steps.{after_asked, after_task};
 
 use crate::asking::ask;
 use hist_model::text::TaskName;
@@ -16,7 +15,7 @@ use sys_abi::memory::NoMemory;
 /// Lets the task of a name step, if it can. After want of memory nothing is said of the kernel.
 pub fn step_task(alloc: Global, kernel: &mut Kernel, name: &TaskName) -> Result<(), NoMemory>
     requires { IsKernel kernel.old }
-    ensures { OnOk result (CameTo kernel.old (task_answer kernel.old.script (past kernel.old) name.now).0 kernel.new) }
+    ensures { OnOk result (CameTo kernel.old (after_task kernel.old.script (past kernel.old) name.now) kernel.new) }
 {
     let Some(task) = kernel.find(name.items()) else {
         return Ok(());
@@ -38,7 +37,7 @@ pub fn do_asked(
 ) -> Result<(), NoMemory>
     requires kernel { IsKernel kernel.old }
     requires worker { worker ≤ 16 }
-    ensures { OnOk result (CameTo kernel.old (worker_answer kernel.old.script (past kernel.old) worker asked.now (refused (past kernel.old) worker asked.now)).0 kernel.new) }
+    ensures { OnOk result (CameTo kernel.old (after_asked kernel.old.script (past kernel.old) worker asked.now) kernel.new) }
 {
     let _came = ask(alloc, kernel, worker, asked)?;
     Ok(())

@@ -22,10 +22,10 @@ use Rattle.step_requests.specs.declared.request.Asked.TheVariants as asks
 use Rattle.sys_abi.specs.Wire.{addfd_of, resp_of}
 use Rattle.sys_abi.specs.declared.wire.Addfd.{Addfd}
 use Rattle.sys_abi.specs.declared.wire.Resp.{Resp}
-use Rattle.step_session.specs.Asking.{deed_of, if_so, refused}
-use Rattle.step_session.specs.declared.refusal.Refusal.TheVariants.{RequestIsPut}
+use Rattle.asked_steps.specs.Asking.{deed_of, if_so, refused}
+use Rattle.asked_steps.specs.declared.refusal.Refusal.TheVariants.{RequestIsPut}
 use Rattle.sys_abi.specs.Errnos.{einval}
-use Rattle.step_session.specs.Stands.{Comes, receipt, taking}
+use Rattle.asked_steps.specs.Stands.{Comes, receipt, taking}
 use Rattle.listener.specs.Stands.{take_of}
 use Rattle.listener.specs.declared.listener.TakeError.{TakeError}
 use Rattle.listener.specs.declared.listener.TakeError.TheVariants.{Fault, Pending}
@@ -34,7 +34,7 @@ use Rattle.listener.specs.declared.queue.FetchError.TheVariants.{Empty, Gone}
 use Rattle.sys_abi.specs.declared.wire.Notif.{Notif}
 use Rattle.hist_model.specs.declared.event.Event.{Event}
 use Rattle.std.proofs.lemmas.Bool.{ne_eqb}
-use Rattle.step_session.specs.declared.asking.Came.TheVariants as came
+use Rattle.asked_steps.specs.declared.asking.Came.TheVariants as came
 
 -- a kernel that is as it was
 pub unchanged : (old new : Kernel) → IsKernel old → new ≡ old → IsSame old new

@@ -3,8 +3,8 @@
 ghost use Rattle.std.specs.Prelude.{◌≡◌, ◌<◌, ◌≤◌, None, IfOk};
 ghost use Rattle.hist_model.specs.Steps.{mem, request_of};
 ghost use Rattle.model_kernel.specs.Kernels.{IsKernel, past};
-ghost use Rattle.step_session.specs.Asking.{refused};
-ghost use Rattle.step_session.specs.Stands.{Comes, receipt, taking};
+ghost use Rattle.asked_steps.specs.Asking.{refused};
+ghost use Rattle.asked_steps.specs.Stands.{Comes, receipt, taking};
 ghost use Rattle.step_requests.specs.declared.request.Asked.TheVariants as asks;
 
 use crate::refusal::Refusal;
@@ -18,8 +18,8 @@ use sys_abi::memory::NoMemory;
 use sys_abi::wire::Notif;
 
 /// What a worker's request came to.
-#[derive(Clone, Copy, PartialEq, Eq, Debug)]
-pub(crate) enum Came {
+#[derive(Clone, Copy)]
+pub enum Came {
     /// It isn't done.
     Refused(Refusal),
     /// The listener refuses the structure (EINVAL), and nothing happens.
@@ -239,12 +239,7 @@ fn done(alloc: Global, kernel: &mut Kernel, worker: u8, asked: &Asked) -> Result
 }
 
 /// Does what a worker asks for, and says what it came to.
-pub(crate) fn ask(
-    alloc: Global,
-    kernel: &mut Kernel,
-    worker: u8,
-    asked: &Asked,
-) -> Result<Came, NoMemory>
+pub fn ask(alloc: Global, kernel: &mut Kernel, worker: u8, asked: &Asked) -> Result<Came, NoMemory>
     requires kernel { IsKernel kernel.old }
     requires worker { worker ≤ 16 }
     ensures { IfOk result (λ came. Comes kernel.old worker asked.now came kernel.new) }

@@ -1,10 +1,10 @@
 use Rattle.std.proofs.Common.{subst, ◌∙◌}
 use Rattle.hist_model.specs.declared.request.Request.{Request}
 use Rattle.step_requests.specs.declared.request.Asked.TheVariants as asks
-use Rattle.step_session.specs.Stands.{Comes}
-use Rattle.step_session.specs.declared.asking.Came.TheVariants as came
-use Rattle.step_session.proofs.Asked.{acted}
-use Rattle.step_session.proofs.asking.act.Goals as goal
+use Rattle.asked_steps.specs.Stands.{Comes}
+use Rattle.asked_steps.specs.declared.asking.Came.TheVariants as came
+use Rattle.asked_steps.proofs.Asked.{acted}
+use Rattle.asked_steps.proofs.asking.act.Goals as goal
 
 pub returns : goal.returns
 returns c =

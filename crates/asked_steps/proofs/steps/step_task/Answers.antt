@@ -2,10 +2,10 @@
 use Rattle.hist_model.specs.Tasks.{is_made}
 use Rattle.std.proofs.Common.{ap, sym, subst, ◌∙◌}
 use Rattle.model_kernel.specs.Kernels.{past}
-use Rattle.step_session.specs.Answers.{task_answer}
-use Rattle.step_session.specs.Stands.{CameTo}
-use Rattle.step_session.proofs.Stepping.{task_came, task_missing, task_stayed}
-use Rattle.step_session.proofs.steps.step_task.Goals as goal
+use Rattle.asked_steps.specs.Steps.{after_task}
+use Rattle.asked_steps.specs.Stands.{CameTo}
+use Rattle.asked_steps.proofs.Stepping.{task_came, task_missing, task_stayed}
+use Rattle.asked_steps.proofs.steps.step_task.Goals as goal
 
 pub returns-in_default : goal.returns-in_default
 returns-in_default c =
@@ -22,5 +22,5 @@ returns-in-Err c =
     let k = c.args.kernel.now in
     let found = c.in-Some.ensures.some c.requires in
     let (same, skip) = c.in-Err.ensures in
-    subst (λ x. CameTo k (task_answer k.script (past k) c.args.name.now).0 x) (sym same)
+    subst (λ x. CameTo k (after_task k.script (past k) c.args.name.now) x) (sym same)
     (task_stayed k c.ready_task.new.self c.task_step.new.self c.in-Some.task c.args.name.now c.ready_task.ensures.same found.0 (found.1 ∙ c.items.ensures) skip)

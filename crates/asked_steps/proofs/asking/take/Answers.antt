@@ -1,8 +1,8 @@
 use Rattle.std.proofs.Common.{subst, sym}
 use Rattle.step_requests.specs.declared.request.Asked.TheVariants as asks
-use Rattle.step_session.specs.Stands.{Comes}
-use Rattle.step_session.proofs.Asked.{taken}
-use Rattle.step_session.proofs.asking.take.Goals as goal
+use Rattle.asked_steps.specs.Stands.{Comes}
+use Rattle.asked_steps.proofs.Asked.{taken}
+use Rattle.asked_steps.proofs.asking.take.Goals as goal
 
 pub returns : goal.returns
 returns c =
