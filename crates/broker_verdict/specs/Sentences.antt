@@ -1,5 +1,6 @@
 -- What is so of a broker that can be trusted, in the words of the mediation law.
-use Rattle.std.specs.Prelude.{◌≡◌, ℕ, ◌+◌, ◌<◌, ℤ, Bool, true, false, not, ◌&&◌, if◌then◌else◌, is_some, List, [], ◌∷◌, ◌++◌, slice_get, Option, Some, Result, Ok}
+use Rattle.std.specs.Prelude.{◌≡◌, ℕ, ◌+◌, ◌<◌, ℤ, Bool, true, false, not, ◌&&◌, if◌then◌else◌, is_some, List, [], ◌∷◌, ◌++◌, slice_get}
+use Rattle.std.specs.Prelude.{Option, Some, Result, Ok}
 use Rattle.hist_model.specs.Calls.{caller, id, listed}
 use Rattle.hist_model.specs.Copies.{further}
 use Rattle.hist_model.specs.Decisions.{path_of}
@@ -22,7 +23,8 @@ use Rattle.hist_model.specs.declared.request.Request.{Request}
 use Rattle.hist_model.specs.declared.request.Request.TheVariants.{Sysinfo}
 use Rattle.sys_abi.specs.declared.wire.Addfd.{Addfd}
 use Rattle.hist_model.specs.declared.script.Script.{Script}
-use Rattle.broker_verdict.specs.Answers.{allows_error, has_effect, has_no_cause, is_error_said, is_number_of, is_pass_said, number_told, outcome_at, what_done}
+use Rattle.broker_verdict.specs.Answers.{allows_error, has_effect, has_no_cause, is_error_said, is_number_of, is_pass_said, number_told}
+use Rattle.broker_verdict.specs.Answers.{outcome_at, what_done}
 use Rattle.broker_verdict.specs.Choices.{decided}
 use Rattle.broker_verdict.specs.Effects.{grants_just, has_numbers, is_granted, is_relative, texts_done, texts_of}
 use Rattle.broker_verdict.specs.SeatCopies.{fit_parts, plan_of}
