@@ -117,14 +117,6 @@ not_yet least before r x wanted old new = by_worth (nat_le (rank (worth_of least
         let is : worth_so least (before ++ r ∷ []) ≡ worth_so least before = rw (worth_more least before r, q) refl in
         rw is old
 
-append_none : (reads : List SeatRead) → reads ++ [] ≡ reads
-append_none [] = refl
-append_none (r ∷ reads) = ap (λ (l : List SeatRead). r ∷ l) (append_none reads)
-
-pub at_end : (reads before rest : List SeatRead) → before ++ rest ≡ reads → length rest ≡ 0 → before ≡ reads
-at_end reads before [] all none = sym (append_none before) ∙ all
-at_end reads before (r ∷ rest) all none = absurd (omega arith)
-
 -- no bytes stand so at once
 pub none_wanted : (all : List SeatRead) (x : ℕ) (wanted : List ℕ) → length wanted ≡ 0 → stood_from all x wanted ≡ true
 none_wanted [] x [] h = refl
@@ -156,12 +148,6 @@ pub none_given : (x : ℕ) (wanted : List ℕ) (right : List Bool) → ((i : ℕ
 none_given x wanted right all i low = all i low
 
 -- ---- the count
-
-pub count_same : (right : List Bool) (i : ℕ) (d b : Bool) → i < length right → get_or right i d ≡ b → wrong_in right ≡ wrong_in (set right i b)
-count_same [] i d b low h = absurd (omega arith)
-count_same (t ∷ right) zero d b low h = ap (λ (s : Bool). wrong_in (s ∷ right)) h
-count_same (true ∷ right) (suc i) d b low h = count_same right i d b (omega arith) h
-count_same (false ∷ right) (suc i) d b low h = ap (λ (n : ℕ). n + 1) (count_same right i d b (omega arith) h)
 
 pub count_less : (right : List Bool) (i : ℕ) (d : Bool) → i < length right → get_or right i d ≡ false → wrong_in right ≡ wrong_in (set right i true) + 1
 count_less [] i d low h = absurd (omega arith)

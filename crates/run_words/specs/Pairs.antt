@@ -1,5 +1,5 @@
 -- Pairs of files, as words name them.
-use Rattle.std.specs.Prelude.{ℕ, ◌&&◌, ◌%◌, ◌==◌, Bool, nat_le, List, [], ◌∷◌, Option, ◌<◌, map, IfSome, String}
+use Rattle.std.specs.Prelude.{ℕ, ◌&&◌, ◌%◌, ◌==◌, Bool, nat_le, List, [], ◌∷◌, map, String}
 use Rattle.std.specs.String.{string_bytes}
 use Rattle.std.specs.declared.alloc.Global.{Global}
 

@@ -14,7 +14,7 @@ use Rattle.hist_model.specs.declared.event.What.{What}
 use Rattle.hist_model.specs.declared.event.What.TheVariants.{Skip}
 use Rattle.hist_model.specs.declared.script.Script.{Script}
 use Rattle.history_frames.specs.Ordinals.{task_name_of, tasks_made}
-use Rattle.model_kernel.specs.Kernels.{IsKernel, past, system}
+use Rattle.model_kernel.specs.Kernels.{past, system}
 use Rattle.model_kernel.specs.Ready.{IsSame}
 use Rattle.model_kernel.specs.Steps.{TakesStep, due_step}
 use Rattle.model_kernel.specs.declared.kernel.Kernel.{Kernel}
@@ -22,12 +22,10 @@ use Rattle.step_requests.specs.declared.request.Asked.{Asked}
 use Rattle.asked_steps.specs.Asking.{deed_of, refused}
 use Rattle.asked_steps.specs.Stands.{CameTo, Comes}
 use Rattle.asked_steps.specs.declared.asking.Came.TheVariants as came
-use Rattle.asked_steps.specs.declared.refusal.Refusal.{Refusal as RefusedAsked}
-use Rattle.asked_steps.proofs.Stepping.{due-is, events-are, made, task_came, task_missing, task_stayed, worker_came}
+use Rattle.asked_steps.proofs.Stepping.{due-is, events-are, made, task_came, task_stayed, worker_came}
 use Rattle.step_session.specs.Answers.{asked_told, deed_told, task_answer, task_told, worker_answer}
 use Rattle.step_session.specs.Stands.{Answers}
-use Rattle.step_session.specs.Texts.{event_text, invalid_text, refused_text, step_text}
-use Rattle.step_session.specs.declared.refusal.Refusal.TheVariants.{Asked as NotDone, NoTask}
+use Rattle.step_session.specs.Texts.{event_text, invalid_text, step_text}
 
 -- ---- steps and skips
 
@@ -50,9 +48,6 @@ answers old new answer before after text came is added = record {
 
 made-told : (S : Script) (K : List Event) (n : Name) → is_made K n ≡ true → task_told S K n ≡ step_text K (Task n) (task_step (system_of S) K n)
 made-told S K n q = rw q refl
-
-pub no-task : (k : Kernel) (n : Name) (before after : List ℕ) → IsKernel k → is_made (past k) n ≡ false → after ≡ before ++ refused_text NoTask → Answers k (task_answer k.script (past k) n) before after k
-no-task k n before after kernel q added = answers k k (task_answer k.script (past k) n) before after (refused_text NoTask) (task_missing k n kernel q) (rw q refl) added
 
 module _ (old mid new : Kernel) (o : ℕ) (n : Name) (same : IsSame old mid) (there : o < tasks_made (past old)) (name : task_name_of (past old) o ≡ n) where
   abbrev S : Script
@@ -90,18 +85,9 @@ module _ (old new : Kernel) (w : ℕ) (asked : Asked) where
   allowed : refused (past old) w asked ≡ None → answer.1 ≡ deed_told old.script (past old) w (deed_of asked)
   allowed q = ap (asked_told old.script (past old) w asked) q
 
-  pub worker-refused : (why : RefusedAsked) (before after : List ℕ) → Comes old w asked (came.Refused why) new → after ≡ before ++ refused_text (NotDone why) → Answers old answer before after new
-  worker-refused why before after comes added =
-      answers old new answer before after (refused_text (NotDone why)) (worker_came old new w asked (came.Refused why) comes) (ap (asked_told old.script (past old) w asked) comes.0) added
-
   pub worker-invalid : (before after : List ℕ) → Comes old w asked came.Invalid new → after ≡ before ++ invalid_text → Answers old answer before after new
   worker-invalid before after (q, none, same) added =
       answers old new answer before after invalid_text (worker_came old new w asked came.Invalid (q, none, same)) (allowed q ∙ ap (deed_told old.script (past old) w) none) added
-
-  pub worker-waits : (before after : List ℕ) → Comes old w asked came.Waits new → after ≡ before ++ codes "skip\n" → Answers old answer before after new
-  worker-waits before after (q, (d, is, skip, same)) added =
-      answers old new answer before after (codes "skip\n") (worker_came old new w asked came.Waits (q, (d, is, skip, same)))
-      (allowed q ∙ (ap (deed_told old.script (past old) w) is ∙ skip-line (past old) (Worker w) (deed_step (system old) (past old) w d) skip)) added
 
   pub worker-stepped : (before after : List ℕ) → Comes old w asked came.Stepped new → ((e : Event) (H : List Event) → past new ≡ e ∷ H → after ≡ before ++ event_text (length H) e.who e.what) → Answers old answer before after new
   worker-stepped before after (q, (d, is, steps, done)) added =

@@ -1,5 +1,5 @@
 -- What `step` answers to a request, and the history after it. A history has its newest event first.
-use Rattle.std.specs.Prelude.{nat_le, ℕ, zero, suc, Bool, not, if◌then◌else◌, ◌==◌, ◌≡◌, ◌<◌, ◌≤◌, true, List, [], ◌∷◌, ◌++◌}
+use Rattle.std.specs.Prelude.{nat_le, ℕ, zero, suc, Bool, not, if◌then◌else◌, ◌==◌, ◌≡◌, ◌≤◌, true, List, [], ◌++◌}
 use Rattle.std.specs.Prelude.{length, Option, Some, None, codes}
 use Rattle.hist_model.specs.Calls.{count}
 use Rattle.hist_model.specs.Deeds.{Deed}
