@@ -142,11 +142,13 @@ def ended_by_signals():
 
 
 def keep_module(room):
-    """Gives the module a second name, since the toolchain removes its own once it has compiled that."""
-    if not os.path.exists(f"{room}/{MODULE}"):
-        for path in glob.glob(f"{glob.escape(room)}/*/**/{MODULE}", recursive=True):
-            with contextlib.suppress(OSError):
-                os.link(path, f"{room}/{MODULE}")
+    """Gives the module a second name, since the toolchain removes its own once it has compiled that. The last one that comes is the program's."""
+    kept, linked = f"{room}/{MODULE}", f"{room}/linked-module"
+    for path in glob.glob(f"{glob.escape(room)}/*/**/{MODULE}", recursive=True):
+        with contextlib.suppress(OSError):
+            if not (os.path.exists(kept) and os.path.samefile(path, kept)):
+                os.link(path, linked)
+                os.rename(linked, kept)
 
 
 def opened_for_writing(pipe, run, meanwhile):
