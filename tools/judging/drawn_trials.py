@@ -202,6 +202,6 @@ def thread_trials(program, seed, count, jobs):
 
 
 def clauses_unmet(judged: Counter):
-    """The clauses that none of the histories has broken."""
-    names = {f"{clause.name} of an answer" if clause is clauses.ANSWER_WITHOUT_CALL else clause.name for clause in clauses.CLAUSES}
+    """The clauses that none of the histories has broken. A text is torn only where a task writes between two reads of it, which is seldom drawn."""
+    names = {f"{it.name} of an answer" if it is clauses.ANSWER_WITHOUT_CALL else it.name for it in clauses.CLAUSES if it is not clauses.TORN}
     return sorted(names - set(judged))

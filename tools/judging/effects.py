@@ -141,14 +141,14 @@ def stale_copy(tried, _):
 
 def unchecked(tried, _):
     reads = tried.serving.reads
+    before = [Reason("the last good check of this call", reads.checks[-1])] if reads.checks else [Reason("no check since here", tried.serving.place)]
     if not reads.parts:
-        return None if tried.serving.checked_at is not None else [Reason("no check since here", tried.serving.place)]
+        return None if tried.serving.checked_at is not None else before
     if tried.goes_from_base and tried.base is not None and tried.serving.base == Quality.WHILE_LISTED:
         return [Reason("no check of the directory that was opened here", tried.serving.base_opened_at)]
     quality, at, byte, read = tried.weakest
     if quality != Quality.WHILE_LISTED:
         return None
-    before = [Reason("the last good check of this call", reads.checks[-1])] if reads.checks else [Reason("no check since here", tried.serving.place)]
     return [*before, Reason(f"byte {byte} of the {named(tried, at)}", read.place)]
 
 
