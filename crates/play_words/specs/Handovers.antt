@@ -1,5 +1,5 @@
 -- What is printed of a play whose workers were replaced, and how it ended.
-use Rattle.std.specs.Prelude.{◌≡◌, ℕ, ◌++◌, List, [], length, Ok, Option, Some, None, codes, decimal}
+use Rattle.std.specs.Prelude.{◌≡◌, ℕ, ◌<◌, ◌++◌, List, [], length, Ok, Option, Some, None, IfSome, codes, decimal}
 use Rattle.std.specs.List.{flat_map}
 use Rattle.hist_model.specs.Legal.{played}
 use Rattle.hist_model.specs.Mediated.{Mediated}
