@@ -4,7 +4,7 @@ Each name asks for the very pair of answers, and for what makes it so: in the ca
 the report, or in an earlier call whose answer differed. A pair that none of them explains has no name.
 """
 from on_linux.attributes import MOST_OF_A_VALUE as MOST_OF_LINUX
-from on_linux.attributes import REFUSED, WITHOUT_RIGHTS, is_refused_for_its_name, is_refused_for_its_value
+from on_linux.attributes import NO_NAMESPACE, WITHOUT_RIGHTS, is_refused_for_its_name, is_refused_for_its_value
 from real_workloads.answers import OF_PATH, base_of, is_same, number_of, text_at, text_of
 from real_workloads.calls import BIND, CREATE, MOVE, PROPAGATION, REMOUNT
 from real_workloads.finds import BEHIND_A_DIRECTORY, BEHIND_A_FILE, BELOW_MISSING, BELOW_THERE, MISSING, THERE
@@ -12,6 +12,8 @@ from real_workloads.tree import place
 
 WALK = ("ENOENT", "ENOTDIR", "ELOOP", "ENAMETOOLONG")
 NO_PERMISSION = ("EACCES", "EPERM")
+# the errors of an attribute's name or value that isn't set
+REFUSED = ("EPERM", "EACCES", "EINVAL", "ERANGE", "ENOSPC", *NO_NAMESPACE)
 KIND, DIRECTORY_KIND, CHARACTER, BLOCK = 0o170000, 0o040000, 0o020000, 0o060000
 KINDS = (0, 0o010000, CHARACTER, BLOCK, 0o100000, 0o140000)
 WRITES, EXCLUSIVE, NO_FOLLOW, ONLY_DIRECTORIES, NO_ACCESS_TIME = 0o3, 0o200, 0o400000, 0o200000, 0o1000000
@@ -288,7 +290,7 @@ def of_attribute(made):
         return None
     if is_refused_for_its_name(name, made.real):
         return "attribute-names"
-    return "attribute-values" if is_set and is_refused_for_its_value(name, made.real) else None
+    return "attribute-values" if is_set and is_refused_for_its_value(name, made.real, made.numbers[3]) else None
 
 
 def of_setxattr(made):
