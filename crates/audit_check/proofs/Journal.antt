@@ -1,13 +1,17 @@
 -- Each line of a legal history's journal is a line: its last byte alone is a 10.
 -- By cases on what happened.
-use Rattle.std.proofs.Common.{◌≡◌, ℕ, Bool, true, false, List, [], ◌∷◌, ◌++◌, Option, Some, None, refl}
-use Rattle.std.specs.Prelude.{◌==◌, ◌%◌, Result, Ok, Err, ℤ, decimal}
+use Rattle.std.proofs.Common.{◌≡◌, ℕ, Bool, true, false, List, [], ◌∷◌, ◌++◌, refl}
+use Rattle.std.specs.Prelude.{◌==◌, ◌%◌, Result, Ok, Err, decimal}
 use Rattle.sys_abi.specs.declared.wire.Addfd.{Addfd}
 use Rattle.sys_abi.specs.declared.wire.Notif.{Notif}
+use Rattle.hist_model.specs.Kinds.{has_send_flag}
 use Rattle.hist_model.specs.Look.{Name}
-use Rattle.hist_model.specs.Requests.{kind_of, low_32}
+use Rattle.call_table.specs.declared.kinds.LinePiece.{LinePiece}
+use Rattle.call_table.specs.declared.kinds.LinePiece.TheVariants.{Quoted, Hexed, Signed, Node, Flags, Data, Via, Shifted}
+use Rattle.call_table.specs.Table.{line_by_row, row_of}
+use Rattle.hist_model.specs.Requests.{Called, called, is_set_at, kind_of, low_16, low_32, natural_at}
 use Rattle.hist_model.specs.ReportWords.{trimmed}
-use Rattle.hist_model.specs.ReportJournal.{args_text, asked_text, delivered_text, entered_text, maker_text, disposition_text, node_text, read_text, reaped_text, received_text, request_text, shift_text, spawn_kind_text, spawned_text, target_text, what_text}
+use Rattle.hist_model.specs.ReportJournal.{args_text, asked_text, delivered_text, entered_text, disposition_text, node_text, read_text, reaped_text, received_text, piece_text, request_text, shift_text, sending_text, spawn_kind_text, spawned_text, target_text, what_text}
 use Rattle.hist_model.specs.declared.event.What.{What}
 use Rattle.hist_model.specs.declared.event.What.TheVariants.{Spawn, Poke, Handler, Enter, Native, Install, Resume, Signal, Deliver, Reap, Exit, Recv, OpenMem, OpenBase, Check, Read, Act, Plant, AddfdPut, AddfdTake, Send, LetGo, Skip, Close}
 use Rattle.hist_model.specs.declared.event.SpawnKind.{SpawnKind}
@@ -19,7 +23,6 @@ use Rattle.hist_model.specs.declared.event.Entered.TheVariants.{Notify, Allow, L
 use Rattle.hist_model.specs.declared.event.Delivered.{Delivered}
 use Rattle.hist_model.specs.declared.event.Delivered.TheVariants.{End, Run, Restart, Eintr}
 use Rattle.hist_model.specs.declared.request.Request.{Request}
-use Rattle.hist_model.specs.declared.request.Request.TheVariants.{Mknod, Mount, SetXattr, OpenAt, Sysinfo, Other}
 use Rattle.hist_model.specs.declared.request.Kind.{Kind}
 use Rattle.hist_model.specs.declared.request.Kind.TheVariants.{Reg, Chr, Blk, Fifo, Sock, Dir, Bad}
 use Rattle.audit_check.proofs.Lines.{is_plain, lacks_append}
@@ -81,28 +84,33 @@ node-plain Sock dev = refl
 node-plain Dir dev = refl
 node-plain Bad dev = refl
 
-maker-plain : (d : Option ℤ) → is_plain (maker_text d) ≡ true
-maker-plain None = refl
-maker-plain (Some d) = search texts
-
 shift-plain : (s : Bool) → is_plain (shift_text s) ≡ true
 shift-plain true = refl
 shift-plain false = refl
 
+piece-plain : (c : Called) (p : LinePiece) → is_plain (piece_text c p) ≡ true
+piece-plain c (Quoted place) = search texts
+piece-plain c (Hexed place) = search texts
+piece-plain c (Signed place) = search texts
+piece-plain c (Node mode device) = search (texts, node-plain (kind_of (low_16 (natural_at c mode))) (low_32 (natural_at c device)))
+piece-plain c (Flags place) = search texts
+piece-plain c (Data place) = search texts
+piece-plain c (Via place) = search texts
+piece-plain c (Shifted place) = search (texts, shift-plain (is_set_at c place))
+
 request-plain : (q : Request) → is_plain (request_text q) ≡ true
-request-plain (Mknod dirfd path mode dev) = search (texts, maker-plain dirfd, node-plain (kind_of mode) (low_32 dev))
-request-plain (Mount source target fstype options via flags shift) = search (texts, shift-plain shift) depth 20
-request-plain (SetXattr path name value flags) = search texts depth 12
-request-plain (OpenAt dirfd path flags) = refl
-request-plain (Sysinfo addr) = refl
-request-plain (Other nr) = plain_call nr
+request-plain q = search (texts, plain_call (called q).nr, lacks_flat 10 (λ p. piece_text (called q) p) (piece-plain (called q)) (line_by_row (row_of (called q).nr)))
 
 target-plain : (b : Bool) (n : ℕ) → is_plain (target_text b n) ≡ true
 target-plain true n = plain_decimal n
 target-plain false n = refl
 
+sending-plain : (b : Bool) → is_plain (sending_text b) ≡ true
+sending-plain true = refl
+sending-plain false = refl
+
 asked-plain : (a : Addfd) → is_plain (asked_text a) ≡ true
-asked-plain a = search (texts, target-plain (a.flags % 2 == 1) a.newfd)
+asked-plain a = search (texts, target-plain (a.flags % 2 == 1) a.newfd, sending-plain (has_send_flag a)) depth 12
 
 -- ---- What happened
 

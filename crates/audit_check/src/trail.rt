@@ -12,8 +12,8 @@ ghost use Rattle.audit_log.specs.Served.{row_at};
 ghost use Rattle.audit_check.specs.Traced.{TellsAnswers};
 
 use crate::trace::{push_trace, trace_of};
-use audit_log::call_table::CallTable;
 use audit_log::error::ReportError;
+use audit_log::kept_calls::CallTable;
 use audit_log::line::LineBuffer;
 use audit_log::part::{Part, write_lines};
 use audit_log::served::{none_found, note, place_at, served_calls};

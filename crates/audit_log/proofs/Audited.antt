@@ -23,7 +23,7 @@ use Rattle.audit_log.proofs.SessionFound.{finding_told}
 use Rattle.audit_log.specs.Sessions.{begun, begun_by}
 use Rattle.audit_log.specs.Audited.{audited, session_line}
 use Rattle.audit_log.specs.CallTable.{TellsCalls, TellsNumbers, number_in}
-use Rattle.audit_log.specs.declared.call_table.CallTable.{CallTable}
+use Rattle.audit_log.specs.declared.kept_calls.CallTable.{CallTable}
 use Rattle.audit_log.proofs.ReceivedCalls.{numbers_told}
 
 audited-told : (J : Judging) (s : Begun) (number : Option ℕ) → audited number (told J s) ≡ audit_by J s.notif s.steps number

@@ -12,7 +12,7 @@ use Rattle.hist_model.specs.declared.event.What.{What}
 use Rattle.hist_model.specs.declared.event.What.TheVariants.{Enter}
 use Rattle.hist_model.proofs.Look.{event_at-here, event_at-older}
 use Rattle.audit_log.specs.CallTable.{TellsCalls, TellsNumbers}
-use Rattle.audit_log.specs.declared.call_table.CallTable.{CallTable}
+use Rattle.audit_log.specs.declared.kept_calls.CallTable.{CallTable}
 use Rattle.audit_log.specs.Places.{call_in}
 use Rattle.audit_log.specs.Received.{Names, TellsReceived, place_in, received_by}
 use Rattle.audit_log.specs.Records.{Tells, number_at, record_in}

@@ -6,7 +6,7 @@ use Rattle.sys_abi.specs.declared.wire.Notif.{Notif}
 use Rattle.audit_log.specs.Begun.{finding_in}
 use Rattle.audit_log.specs.declared.session.SessionRecord.{SessionRecord}
 use Rattle.audit_log.specs.CallTable.{number_in}
-use Rattle.audit_log.specs.declared.call_table.CallTable.{CallTable}
+use Rattle.audit_log.specs.declared.kept_calls.CallTable.{CallTable}
 
 -- what came of a session for whose call this number was installed
 abbrev pub audited : Option ℕ → SessionRecord → Audit

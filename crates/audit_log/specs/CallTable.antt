@@ -9,7 +9,7 @@ use Rattle.audit_log.specs.Places.{call_in}
 use Rattle.audit_log.specs.Received.{TellsReceived}
 use Rattle.audit_log.specs.Records.{HasEntries, Tells, number_at, record_in}
 use Rattle.audit_log.specs.Requests.{AnswersAre, TellsInstalled}
-use Rattle.audit_log.specs.declared.call_table.CallTable.{CallTable}
+use Rattle.audit_log.specs.declared.kept_calls.CallTable.{CallTable}
 
 -- what is kept is so of the history
 pub record TellsCalls (H : List Event) (t : CallTable) : Type 0 where

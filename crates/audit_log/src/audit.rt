@@ -9,8 +9,8 @@ ghost use Rattle.hist_model.specs.ReportAudit.{answer_of, answer_text, arrival_o
 ghost use Rattle.audit_log.specs.Audited.{audited, named, session_line};
 ghost use Rattle.audit_log.specs.Written.{Wrote};
 
-use crate::call_table::CallTable;
 use crate::error::ReportError;
+use crate::kept_calls::CallTable;
 use crate::line::LineBuffer;
 use crate::part::{write_if_many, write_line, write_title};
 use crate::report::Report;

@@ -8,7 +8,7 @@ ghost use Rattle.audit_log.specs.Records.{record_in};
 ghost use Rattle.audit_log.specs.Requests.{for_install, pending_call};
 
 use crate::answer::{answered_call, installs, pending_call};
-use crate::call_table::CallTable;
+use crate::kept_calls::CallTable;
 use crate::places::CallPlaces;
 use crate::received::Ids;
 use crate::records::CallRecords;

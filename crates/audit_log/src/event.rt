@@ -1,8 +1,9 @@
 //! What happened in an event, in words.
 
-ghost use Rattle.std.specs.Prelude.{◌≡◌, ◌++◌, OnOk, codes, decimal, replicate, take, true, length, ◌<◌, ◌≤◌};
+ghost use Rattle.std.specs.Prelude.{◌≡◌, ◌++◌, OnOk, codes, decimal, replicate, take, true, length, ◌<◌, ◌≤◌, ◌==◌, ◌%◌};
 ghost use Rattle.hist_model.specs.ReportWords.{number_text, result_text, trimmed};
-ghost use Rattle.hist_model.specs.ReportJournal.{request_text, spawn_kind_text, spawned_text, disposition_text, entered_text, args_text, delivered_text, read_text, asked_text, what_text};
+ghost use Rattle.hist_model.specs.ReportJournal.{request_text, spawn_kind_text, spawned_text, disposition_text, entered_text, args_text, delivered_text, read_text, asked_text, sending_text, target_text, what_text};
+ghost use Rattle.hist_model.specs.Kinds.{has_send_flag};
 
 use crate::line::LineBuffer;
 use crate::request::push_request;
@@ -401,11 +402,26 @@ fn push_asked(line: &mut LineBuffer, asked: &Addfd) -> Result<(), NoMemory>
     line.push(" src=")?;
     line.push_number(u64::from(asked.srcfd))?;
     line.push(" at=")?;
+    push_target(line, asked)?;
+    line.push(sending_word(asked))
+}
+
+/// Adds the number at which a descriptor is asked for, if its flags have one.
+fn push_target(line: &mut LineBuffer, asked: &Addfd) -> Result<(), NoMemory>
+    ensures { OnOk result (line.new ≡ line.old ++ target_text (asked.now.flags % 2 == 1) asked.now.newfd) }
+{
     if asked.has_setfd() {
         line.push_number(u64::from(asked.newfd))
     } else {
         line.push("-")
     }
+}
+
+/// The word of an installation that doesn't answer its call, too.
+fn sending_word(asked: &Addfd) -> &'static str
+    ensures { result.now ≡ sending_text (has_send_flag asked.now) }
+{
+    if asked.has_send_flag() { "" } else { " nosend" }
 }
 
 /// Adds that a worker answered a notification.

@@ -3,7 +3,7 @@
 //! The writers' model is the text that `hist_model` defines for any list of events. Each writes its part to a sink, and gathers
 //! lines until a write is worth its cost (`part`); after any error the sink took a prefix of that part. What the calls, the audit
 //! and the summary have in common is found once (`tables`), also for who writes more of the same history: in one pass over the
-//! events, which counts them (`count`), and keeps what came of the calls (`call_table`) and of the sessions (`session_table`).
+//! events, which counts them (`count`), and keeps what came of the calls (`kept_calls`) and of the sessions (`session_table`).
 //! Which session a call had is told by both (`served`).
 //!
 //! A worker is in one session at most, so one more event changes what is kept of one session at most (`session`): what its
@@ -18,13 +18,13 @@
 mod answer;
 pub mod audit;
 mod call_pass;
-pub mod call_table;
 pub mod calls;
 mod count;
 mod digits;
 pub mod error;
 pub mod event;
 pub mod journal;
+pub mod kept_calls;
 pub mod laws;
 pub mod line;
 mod numbering;

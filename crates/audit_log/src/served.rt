@@ -4,7 +4,7 @@ ghost use Rattle.std.specs.Prelude.{◌≡◌, IfOk, None, get_or, replicate};
 ghost use Rattle.audit_log.specs.Places.{call_in};
 ghost use Rattle.audit_log.specs.Served.{TellsSessions, noted};
 
-use crate::call_table::CallTable;
+use crate::kept_calls::CallTable;
 use crate::session::SessionRecord;
 use std::alloc::Global;
 use sys_abi::memory::NoMemory;

@@ -9,9 +9,9 @@ ghost use Rattle.audit_log.specs.Counts.{counted, counts_of, counts_words, event
 ghost use Rattle.audit_log.specs.Written.{Wrote};
 
 use crate::audit::{answer, arrival};
-use crate::call_table::CallTable;
 use crate::count::{denied, faulty, gone, granted, injected, lost, passed};
 use crate::error::ReportError;
+use crate::kept_calls::CallTable;
 use crate::line::LineBuffer;
 use crate::part::write_line;
 use crate::report::Report;

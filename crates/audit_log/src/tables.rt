@@ -7,8 +7,8 @@ ghost use Rattle.audit_log.specs.Pass.{HasPast};
 ghost use Rattle.audit_log.specs.Tables.{TellsTables};
 
 use crate::call_pass::CallPass;
-use crate::call_table::CallTable;
 use crate::count::EventCounts;
+use crate::kept_calls::CallTable;
 use crate::session::SessionRecord;
 use crate::session_table::SessionTable;
 use hist_model::event::Event;

@@ -9,8 +9,10 @@
 
 ghost use Rattle.std.specs.Prelude.{◌≡◌, get_or, drop, []};
 ghost use Rattle.std.specs.Vec.Iter.{into_iter_items};
-ghost use Rattle.hist_model.specs.Requests.{request, base_dirfd, low_16, low_32, signed_32};
+ghost use Rattle.hist_model.specs.Requests.{argument, request, base_dirfd, low_16, low_32, signed_32};
 
+use call_table::kinds::PathBase;
+use call_table::rows::base_of;
 use hist_model::request::{ArgCopy, Request};
 use hist_model::text::Text;
 use std::alloc::Global;
@@ -71,11 +73,18 @@ pub fn request(nr: i32, args: &[u64; 6], copy: ArgCopy) -> Request
 pub fn base_dirfd(nr: i32, args: &[u64; 6]) -> Option<i32>
     ensures { result ≡ base_dirfd nr args.now }
 {
-    match nr {
-        calls::MKNOD | calls::MOUNT | calls::SETXATTR => Some(AT_FDCWD),
-        calls::OPENAT | calls::MKNODAT => Some(signed_32(args[0])),
-        _ => None,
+    match base_of(nr) {
+        PathBase::Nowhere => None,
+        PathBase::WorkingDirectory => Some(AT_FDCWD),
+        PathBase::Register(register) => Some(signed_32(argument(args, register))),
     }
+}
+
+/// What stands in a register of a call, counted from 0; 0 in one that isn't there.
+fn argument(args: &[u64; 6], register: u8) -> u64
+    ensures { result ≡ argument args.now register }
+{
+    args.get(usize::from(register)).copied().unwrap_or(0)
 }
 
 /// The next text, or an empty one where none is left.

@@ -1,6 +1,6 @@
 -- The kernel's step for a worker's deed answers the deed, unless it is a skip: by the cases of the deed, where each operand is itself
 -- and a read gives some of the bytes that were asked for. And each read that is due asks for at least one byte.
-use Rattle.std.proofs.Common.{◌≡◌, ℕ, ◌≤◌, Bool, true, false, not, List, refl, Option, Some, None, arith}
+use Rattle.std.proofs.Common.{◌≡◌, ℕ, ◌≤◌, Bool, true, false, not, List, [], ◌∷◌, refl, Option, Some, None, arith}
 use Rattle.std.specs.Prelude.{if◌then◌else◌, ◌==◌, ℤ, Result, Ok, Err, bytes_eq}
 use Rattle.std.specs.Ordering.{int_eq}
 use Rattle.std.specs.Option.{option_eq}
@@ -8,7 +8,8 @@ use Rattle.std.proofs.lemmas.Bool.{eq-eqb}
 use Rattle.std.proofs.lemmas.Bool.Decides.{Decides-int_eq}
 use Rattle.std.proofs.lemmas.Slice.Eq.{bytes_eq-Decides}
 use Rattle.hist_model.specs.Copies.{fits_piece}
-use Rattle.hist_model.specs.Fitting.{fits, request_eq, cap_eq, addfd_eq, back_eq}
+use Rattle.hist_model.specs.Fitting.{all_eq, fits, request_eq, cap_eq, addfd_eq, back_eq}
+use Rattle.hist_model.specs.Requests.{called}
 use Rattle.hist_model.specs.Legal.{system_of, rules_of, copied}
 use Rattle.hist_model.specs.Deeds.{Deed}
 use Rattle.hist_model.specs.Kinds.{is_letgo, gives_up, opens, opens_base, checks, skips}
@@ -23,7 +24,6 @@ use Rattle.hist_model.specs.declared.event.What.TheVariants.{Recv, Skip}
 use Rattle.hist_model.specs.declared.policy.Cap.{Cap}
 use Rattle.hist_model.specs.declared.policy.Policy.{Policy}
 use Rattle.hist_model.specs.declared.request.Request.{Request}
-use Rattle.hist_model.specs.declared.request.Request.TheVariants.{Mknod, Mount, SetXattr, OpenAt, Sysinfo, Other}
 use Rattle.hist_model.specs.declared.script.Figures.{Figures}
 use Rattle.hist_model.specs.declared.script.Script.{Script}
 use Rattle.hist_model.proofs.MappedBytes.{bytes_fit}
@@ -42,25 +42,16 @@ same-int x = grind (arith, Decides-int_eq)
 same-bytes : (xs : List ℕ) → bytes_eq xs xs ≡ true
 same-bytes xs = grind (arith, bytes_eq-Decides)
 
-same-dirfd : (d : Option ℤ) → option_eq int_eq d d ≡ true
-same-dirfd None = refl
-same-dirfd (Some d) = same-int d
-
-same-flag : (b : Bool) → (if b then b else not b) ≡ true
-same-flag true = refl
-same-flag false = refl
-
 same-cap : (cap : Option Cap) → option_eq cap_eq cap cap ≡ true
 same-cap None = refl
 same-cap (Some cap) = rw (same-number cap.rule, same-number cap.times) refl
 
+same-entries : {A : Type 0} → (eq : A → A → Bool) → ((x : A) → eq x x ≡ true) → (xs : List A) → all_eq eq xs xs ≡ true
+same-entries eq same [] = refl
+same-entries eq same (x ∷ xs) = rw (same x) (same-entries eq same xs)
+
 same-request : (q : Request) → request_eq q q ≡ true
-same-request (Mknod dirfd path mode dev) = rw (same-dirfd dirfd, same-bytes path, same-number mode, same-number dev) refl
-same-request (Mount source target fstype options via flags shift) = rw (same-bytes source, same-bytes target, same-bytes fstype, same-bytes options, same-bytes via, same-number flags, same-flag shift) refl
-same-request (SetXattr path name value flags) = rw (same-bytes path, same-bytes name, same-bytes value, same-number flags) refl
-same-request (OpenAt dirfd path flags) = rw (same-int dirfd, same-bytes path, same-number flags) refl
-same-request (Sysinfo addr) = same-number addr
-same-request (Other nr) = same-int nr
+same-request q = rw (same-int (called q).nr, same-entries bytes_eq same-bytes (called q).texts, same-entries int_eq same-int (called q).numbers) refl
 
 same-addfd : (a : Addfd) → addfd_eq a a ≡ true
 same-addfd a = rw (same-number a.id, same-number a.flags, same-number a.srcfd, same-number a.newfd, same-number a.newfd_flags) refl

@@ -1,13 +1,16 @@
 -- A piece that is wanted has at least one byte.
 -- By induction on the plan and on the answers: each part of a plan asks for some bytes, and a text goes on with what is left.
 use Rattle.std.proofs.Common.{inl, inr, ◌≡◌, ℕ, ◌-◌, ◌<◌, ◌≤◌, Bool, true, false, List, [], ◌∷◌, length, refl, ap, sym, Option, Some, None, arith, lit<}
-use Rattle.std.specs.Prelude.{Result, Ok, Err, ℤ, pos, negsuc, nat_le, nat_lt, ◌==◌, if◌then◌else◌}
+use Rattle.std.specs.Prelude.{Result, Ok, Err, ℤ, nat_le, nat_lt, ◌==◌}
 use Rattle.std.proofs.lemmas.Bool.{cases_Bool}
 use Rattle.std.proofs.lemmas.Bool.Decides.{nat_tests}
-use Rattle.hist_model.specs.Copies.{Reading, Asks, Whole, Fails, Progress, Wants, Complete, Faulty, further, piece, has_zero, begun_with, text_goes_on, text_piece, read_text, value_piece, read_value, read_sized, read_part, progress_with, progress_after, progress, wanted, plan, option_at, arg}
+use Rattle.hist_model.specs.Copies.{Reading, Asks, Whole, Fails, Progress, Wants, Complete, Faulty, further, piece, has_zero, begun_with, text_goes_on, text_piece, read_text, value_piece, read_value, read_sized, read_part, progress_with, progress_after, progress, wanted, parts_for, plan, plan_by_row, option_at, arg}
 use Rattle.hist_model.specs.declared.copy.Part.{Part}
 use Rattle.hist_model.specs.declared.copy.Part.TheVariants.{Text, Value}
-use Rattle.sys_abi.specs.Calls.{nr_mknod, nr_mknodat, nr_openat, nr_mount, nr_setxattr}
+use Rattle.call_table.specs.declared.kinds.CallText.{CallText}
+use Rattle.call_table.specs.declared.kinds.CallText.TheVariants.{Path, Source, Fstype, Data, Name, Program}
+use Rattle.call_table.specs.Table.{Row, row_of}
+use Rattle.call_table.specs.declared.kinds.CallText.TheVariants as call_text
 
 abbrev IsAsking : Reading → Type 0
 IsAsking (Asks a n) = 1 ≤ n
@@ -87,25 +90,26 @@ unfolding progress
 wants-some [] answers h = tt
 wants-some (part ∷ parts) answers h = after-reading (read_part part answers) (progress parts) (part-asks part answers h.0) (λ later. wants-some parts later h.1)
 
-sound-if : (b : Bool) (xs ys : List Part) → AllSound xs → AllSound ys → AllSound (if b then xs else ys)
-sound-if true xs ys h g = h
-sound-if false xs ys h g = g
-
 option-sound : (a : ℕ) → IsSound (option_at a)
 option-sound a = elim (cases_Bool (a == 0)) [ inl h ↦ rw h tt | inr h ↦ rw h (lit< tt) ]
 
-plan-sound : (nr : ℤ) (args : List ℕ) → AllSound (plan nr args)
-plan-sound (pos nr) args =
-    sound-if (nr == nr_mknod) _ _ (lit< tt, tt) (
-    sound-if (nr == nr_mknodat) _ _ (lit< tt, tt) (
-    sound-if (nr == nr_openat) _ _ (lit< tt, tt) (
-    sound-if (nr == nr_mount) _ _ (option-sound (arg args 0), (lit< tt, (option-sound (arg args 2), (option-sound (arg args 4), tt)))) (
-    sound-if (nr == nr_setxattr) _ _ (lit< tt, (lit< tt, (tt, tt))) tt))))
-plan-sound (negsuc nr) args = tt
+parts-sound : (texts : List CallText) (args : List ℕ) → AllSound (parts_for texts args)
+parts-sound [] args = tt
+parts-sound (Path r ∷ ts) args = (lit< tt, parts-sound ts args)
+parts-sound (Source r ∷ ts) args = (option-sound (arg args r), parts-sound ts args)
+parts-sound (Fstype r ∷ ts) args = (option-sound (arg args r), parts-sound ts args)
+parts-sound (Data r ∷ ts) args = (option-sound (arg args r), parts-sound ts args)
+parts-sound (Name r ∷ ts) args = (lit< tt, parts-sound ts args)
+parts-sound (call_text.Value r size ∷ ts) args = (tt, parts-sound ts args)
+parts-sound (Program ∷ ts) args = parts-sound ts args
+
+plan-sound : (row : Option Row) (args : List ℕ) → AllSound (plan_by_row row args)
+plan-sound None args = tt
+plan-sound (Some row) args = parts-sound row.texts args
 
 -- no piece of a call's arguments is empty
 pub piece_wanted : (nr : ℤ) (args : List ℕ) (answers : List (Result (List ℕ) ℕ)) → IsWanting (progress (plan nr args) answers)
-piece_wanted nr args answers = wants-some (plan nr args) answers (plan-sound nr args)
+piece_wanted nr args answers = wants-some (plan nr args) answers (plan-sound (row_of nr) args)
 
 -- the piece that is wanted, where none is empty
 pub wanted_some : (p : Progress) (q : ℕ × ℕ) → IsWanting p → wanted p ≡ Some q → 1 ≤ q.1

@@ -279,6 +279,7 @@ words : each_line (
     ∷ Act (Mknod (Some (negsuc 99)) (97 ∷ 34 ∷ 92 ∷ 10 ∷ 127 ∷ []) 4534 0) None (Err 17) ∷ Act (Mknod None [] 24576 1280) None ok
     ∷ Act (Mount (codes "/dev/sda1") (codes "/mnt") (codes "ext4") [] (codes "fuse2fs") 3 true) None ok ∷ Act (SetXattr (codes "/d") (codes "n") [] 1) None (Err 61)
     ∷ Plant 68096 [] None (Err 14) ∷ AddfdPut (record { id = 8; flags = 3; srcfd = 5; newfd = 6; newfd_flags = 0 }) (Err 9) ∷ AddfdPut (record { id = 8; flags = 2; srcfd = 5; newfd = 0; newfd_flags = 0 }) ok
+    ∷ AddfdPut (record { id = 8; flags = 1; srcfd = 5; newfd = 6; newfd_flags = 0 }) ok
     ∷ AddfdTake (Ok 3) ∷ AddfdTake (Err 2) ∷ Send 4 Continue (Err 2) ∷ [])
     ≡ codes "spawn 0.2 pid=4 share" ∷ codes "spawn 0.3.11 EAGAIN" ∷ codes "handler 10 restart" ∷ codes "handler 15 plain"
     ∷ codes "call 1000 1 2 3 4 5 18446744073709551615 allow" ∷ codes "call getpid errno=13" ∷ codes "native 3" ∷ codes "native ENOSYS" ∷ codes "install 5" ∷ codes "install EBADF"
@@ -286,7 +287,7 @@ words : each_line (
     ∷ codes "read 0 4 00ff" ∷ codes "read 0 4 -" ∷ codes "read 0 4 EFAULT"
     ∷ codes "act mknodat -100 \"a\\\"\\\\\\x0a\\x7f\" fifo EEXIST" ∷ codes "act mknod \"\" blk 5:0 ok"
     ∷ codes "act mount \"/dev/sda1\" \"/mnt\" \"ext4\" flags=3 data=\"\" via=fuse2fs shift=1 ok" ∷ codes "act setxattr \"/d\" \"n\" - flags=1 ENODATA"
-    ∷ codes "plant 68096 EFAULT" ∷ codes "addfd-put 8 src=5 at=6 EBADF" ∷ codes "addfd-put 8 src=5 at=- ok"
+    ∷ codes "plant 68096 EFAULT" ∷ codes "addfd-put 8 src=5 at=6 EBADF" ∷ codes "addfd-put 8 src=5 at=- ok" ∷ codes "addfd-put 8 src=5 at=6 nosend ok"
     ∷ codes "addfd-take 3" ∷ codes "addfd-take ENOENT" ∷ codes "send 4 continue ENOENT" ∷ []
 unfolding each_line ok digits
 words = refl

@@ -1,10 +1,13 @@
 -- The copy of a call's arguments: which texts a call has in its caller's memory (mknod(2), openat(2), mount(2), setxattr(2)),
 -- what they are at one moment, and how they are read in pieces.
 use Rattle.std.specs.Prelude.{ℕ, zero, suc, ◌+◌, ◌-◌, ◌%◌, ◌^◌, min, Bool, true, false, ◌&&◌, if◌then◌else◌, ◌==◌, nat_lt, nat_le, List, []}
-use Rattle.std.specs.Prelude.{◌∷◌, ◌++◌, length, slice_index_or, Option, Some, None, Result, Ok, Err, ℤ, pos}
+use Rattle.std.specs.Prelude.{◌∷◌, ◌++◌, length, slice_index_or, Option, Some, None, Result, Ok, Err, ℤ}
 use Rattle.hist_model.specs.declared.copy.Part.{Part}
 use Rattle.hist_model.specs.declared.copy.Part.TheVariants.{Text, Value}
-use Rattle.sys_abi.specs.Calls.{nr_mknod, nr_mount, nr_setxattr, nr_openat, nr_mknodat}
+use Rattle.call_table.specs.declared.kinds.CallText.{CallText}
+use Rattle.call_table.specs.declared.kinds.CallText.TheVariants.{Path, Source, Fstype, Data, Name, Program}
+use Rattle.call_table.specs.Table.{Row, row_of}
+use Rattle.call_table.specs.declared.kinds.CallText.TheVariants as call_text
 use Rattle.sys_abi.specs.Errnos.{e2big, efault, einval, erange, enametoolong}
 
 -- ---- the plan
@@ -24,16 +27,27 @@ option_at address = if address == 0 then Value 0 0 else Text address 4096 einval
 abbrev pub name_at : ℕ → Part
 name_at address = Text address 256 erange
 
+-- what is read of a text of a call: nothing of what the policy adds
+abbrev pub part_for : CallText → List ℕ → List Part
+part_for (Path r) args = path_at (arg args r) ∷ []
+part_for (Source r) args = option_at (arg args r) ∷ []
+part_for (Fstype r) args = option_at (arg args r) ∷ []
+part_for (Data r) args = option_at (arg args r) ∷ []
+part_for (Name r) args = name_at (arg args r) ∷ []
+part_for (call_text.Value r size) args = Value (arg args r) (arg args size) ∷ []
+part_for Program args = []
+
+abbrev pub parts_for : List CallText → List ℕ → List Part
+parts_for [] args = []
+parts_for (t ∷ ts) args = part_for t args ++ parts_for ts args
+
+abbrev pub plan_by_row : Option Row → List ℕ → List Part
+plan_by_row None args = []
+plan_by_row (Some row) args = parts_for row.texts args
+
 -- what is read for a call, in order
 abbrev pub plan : ℤ → List ℕ → List Part
-plan (pos nr) args =
-    if nr == nr_mknod then path_at (arg args 0) ∷ []
-    else (if nr == nr_mknodat then path_at (arg args 1) ∷ []
-    else (if nr == nr_openat then path_at (arg args 1) ∷ []
-    else (if nr == nr_mount then option_at (arg args 0) ∷ path_at (arg args 1) ∷ option_at (arg args 2) ∷ option_at (arg args 4) ∷ []
-    else (if nr == nr_setxattr then path_at (arg args 0) ∷ name_at (arg args 1) ∷ Value (arg args 2) (arg args 3) ∷ []
-    else []))))
-plan _ args = []
+plan nr args = plan_by_row (row_of nr) args
 
 -- ---- the copy at one moment. The byte at an address is given by a function, which is none where it isn't mapped.
 

@@ -25,6 +25,7 @@ use Rattle.hist_model.specs.declared.request.Kind.{Kind}
 use Rattle.hist_model.specs.declared.request.Kind.TheVariants.{Reg, Chr, Blk, Fifo, Sock, Dir, Bad}
 use Rattle.hist_model.specs.declared.request.Request.{Request}
 use Rattle.hist_model.specs.declared.request.Request.TheVariants.{Mknod, Mount, SetXattr, OpenAt}
+use Rattle.call_table.specs.Table.{Row, table}
 use Rattle.sys_abi.specs.Calls.{nr_close, nr_getpid, nr_sysinfo, nr_mknod, nr_mount, nr_setxattr, nr_openat, nr_mknodat}
 
 -- ---- Conditions
@@ -155,10 +156,9 @@ meets PlainFlags q = has_plain_flags q
 
 -- ---- Rules
 
--- the calls that have names: close, getpid, sysinfo, mknod, mount, setxattr, openat and mknodat
+-- the calls that have names: those of the table
 abbrev pub named_calls : List ℤ
-named_calls =
-    pos nr_close ∷ pos nr_getpid ∷ pos nr_sysinfo ∷ pos nr_mknod ∷ pos nr_mount ∷ pos nr_setxattr ∷ pos nr_openat ∷ pos nr_mknodat ∷ []
+named_calls = map (λ (row : Row). pos row.nr) table
 
 -- the number is in the list
 abbrev pub is_among : List ℤ → ℤ → Bool

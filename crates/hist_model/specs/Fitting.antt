@@ -1,10 +1,11 @@
 -- Which steps answer a worker's deed: a step of the deed's kind, with all that the deed names, and with an answer that a deed of this
 -- kind can have.
-use Rattle.std.specs.Prelude.{Bool, true, false, ◌&&◌, not, if◌then◌else◌, ◌==◌, Some, Ok, Err, bytes_eq}
+use Rattle.std.specs.Prelude.{Bool, true, false, ◌&&◌, ◌==◌, List, [], ◌∷◌, Some, Ok, Err, bytes_eq}
 use Rattle.std.specs.Ordering.{int_eq}
 use Rattle.std.specs.Option.{option_eq}
 use Rattle.hist_model.specs.Copies.{fits_piece}
 use Rattle.hist_model.specs.Deeds.{Deed}
+use Rattle.hist_model.specs.Requests.{Called, called}
 use Rattle.hist_model.specs.declared.event.Back.{Back}
 use Rattle.hist_model.specs.declared.event.Back.TheVariants.{Value, Fail, Continue}
 use Rattle.hist_model.specs.declared.event.What.{What}
@@ -12,22 +13,22 @@ use Rattle.hist_model.specs.declared.event.What.TheVariants.{Recv, OpenMem, Open
 use Rattle.hist_model.specs.declared.event.What.TheVariants.{AddfdPut, AddfdTake, Send, LetGo}
 use Rattle.hist_model.specs.declared.policy.Cap.{Cap}
 use Rattle.hist_model.specs.declared.request.Request.{Request}
-use Rattle.hist_model.specs.declared.request.Request.TheVariants.{Mknod, Mount, SetXattr, OpenAt, Sysinfo, Other}
 use Rattle.sys_abi.specs.Errnos.{enoent}
 use Rattle.sys_abi.specs.declared.wire.Addfd.{Addfd}
 
+-- two lists are one, entry by entry
+abbrev pub all_eq : {A : Type 0} → (A → A → Bool) → List A → List A → Bool
+all_eq eq [] [] = true
+all_eq eq (x ∷ xs) (y ∷ ys) = eq x y && all_eq eq xs ys
+all_eq eq _ _ = false
+
+-- two calls are one
+abbrev pub called_eq : Called → Called → Bool
+called_eq a b = int_eq a.nr b.nr && (all_eq bytes_eq a.texts b.texts && all_eq int_eq a.numbers b.numbers)
+
 -- two requests are one
 abbrev pub request_eq : Request → Request → Bool
-request_eq (Mknod dirfd path mode dev) (Mknod d p m v) = option_eq int_eq dirfd d && (bytes_eq path p && ((mode == m) && (dev == v)))
-request_eq (Mount source target fstype options via flags shift) (Mount s t f o v n b) =
-    bytes_eq source s
-    && (bytes_eq target t
-    && (bytes_eq fstype f && (bytes_eq options o && (bytes_eq via v && ((flags == n) && (if shift then b else not b))))))
-request_eq (SetXattr path name value flags) (SetXattr p n v f) = bytes_eq path p && (bytes_eq name n && (bytes_eq value v && (flags == f)))
-request_eq (OpenAt dirfd path flags) (OpenAt d p f) = int_eq dirfd d && (bytes_eq path p && (flags == f))
-request_eq (Sysinfo addr) (Sysinfo a) = addr == a
-request_eq (Other nr) (Other n) = int_eq nr n
-request_eq _ _ = false
+request_eq a b = called_eq (called a) (called b)
 
 -- two caps are one
 abbrev pub cap_eq : Cap → Cap → Bool

@@ -1,13 +1,17 @@
 -- The journal of a report: one line for each event.
-use Rattle.std.specs.Prelude.{ℕ, ◌%◌, Bool, true, false, ◌==◌, List, [], ◌∷◌, ◌++◌, length, Option, Some, None, Result, Ok}
-use Rattle.std.specs.Prelude.{Err, ℤ, codes, decimal}
+use Rattle.std.specs.Prelude.{ℕ, ◌%◌, Bool, true, false, ◌==◌, List, [], ◌∷◌, ◌++◌, length, Result, Ok}
+use Rattle.std.specs.Prelude.{Err, codes, decimal}
 use Rattle.std.specs.Fmt.{signed_decimal}
 use Rattle.std.specs.List.{flat_map}
 use Rattle.sys_abi.specs.Devices.{major_of, minor_of}
 use Rattle.sys_abi.specs.declared.wire.Notif.{Notif}
 use Rattle.sys_abi.specs.declared.wire.Addfd.{Addfd}
+use Rattle.hist_model.specs.Kinds.{has_send_flag}
 use Rattle.hist_model.specs.Look.{Name}
-use Rattle.hist_model.specs.Requests.{kind_of, low_32}
+use Rattle.call_table.specs.declared.kinds.LinePiece.{LinePiece}
+use Rattle.call_table.specs.Table.{line_by_row, row_of}
+use Rattle.call_table.specs.declared.kinds.LinePiece.TheVariants.{Quoted, Hexed, Signed, Node, Flags, Data, Via, Shifted}
+use Rattle.hist_model.specs.Requests.{Called, called, descriptor_at, is_set_at, kind_of, low_16, low_32, natural_at, text_at}
 use Rattle.hist_model.specs.ReportWords.{hex, hex_or_dash, trimmed, quoted, program_text, name_text, errno_text, call_text}
 use Rattle.hist_model.specs.ReportWords.{result_text, number_text, back_text, actor_text}
 use Rattle.hist_model.specs.declared.event.Event.{Event}
@@ -24,7 +28,6 @@ use Rattle.hist_model.specs.declared.event.Entered.TheVariants.{Notify, Allow, L
 use Rattle.hist_model.specs.declared.event.Delivered.{Delivered}
 use Rattle.hist_model.specs.declared.event.Delivered.TheVariants.{End, Run, Restart, Eintr}
 use Rattle.hist_model.specs.declared.request.Request.{Request}
-use Rattle.hist_model.specs.declared.request.Request.TheVariants.{Mknod, Mount, SetXattr, OpenAt, Sysinfo, Other}
 use Rattle.hist_model.specs.declared.request.Kind.{Kind}
 use Rattle.hist_model.specs.declared.request.Kind.TheVariants.{Reg, Chr, Blk, Fifo, Sock, Dir, Bad}
 
@@ -86,36 +89,45 @@ node_text Sock dev = codes "sock"
 node_text Dir dev = codes "dir"
 node_text Bad dev = codes "bad"
 
--- the call that makes a node, with the number from which its path goes
-abbrev pub maker_text : Option ℤ → List ℕ
-maker_text None = codes "mknod "
-maker_text (Some dirfd) = codes "mknodat " ++ signed_decimal dirfd ++ codes " "
-
 abbrev pub shift_text : Bool → List ℕ
 shift_text true = codes "1"
 shift_text false = codes "0"
 
--- what a worker does for a call; of a call that it never does anything for, the name alone
+-- a piece of the line of a call
+abbrev pub piece_text : Called → LinePiece → List ℕ
+piece_text c (Quoted place) = codes " " ++ quoted (text_at c.texts place)
+piece_text c (Hexed place) = codes " " ++ hex_or_dash (text_at c.texts place)
+piece_text c (Signed place) = codes " " ++ signed_decimal (descriptor_at c place)
+piece_text c (Node mode device) = codes " " ++ node_text (kind_of (low_16 (natural_at c mode))) (low_32 (natural_at c device))
+piece_text c (Flags place) = codes " flags=" ++ decimal (natural_at c place)
+piece_text c (Data place) = codes " data=" ++ quoted (text_at c.texts place)
+piece_text c (Via place) = codes " via=" ++ program_text (text_at c.texts place)
+piece_text c (Shifted place) = codes " shift=" ++ shift_text (is_set_at c place)
+
+abbrev pub pieces_text : Called → List LinePiece → List ℕ
+pieces_text c pieces = flat_map (λ p. piece_text c p) pieces
+
+-- what a worker does for a call: its name, and what its row says of it
+abbrev pub call_line : Called → List ℕ
+call_line c = call_text c.nr ++ pieces_text c (line_by_row (row_of c.nr))
+
 abbrev pub request_text : Request → List ℕ
-request_text (Mknod dirfd path mode dev) = maker_text dirfd ++ quoted path ++ codes " " ++ node_text (kind_of mode) (low_32 dev)
-request_text (Mount source target fstype options via flags shift) =
-    codes "mount " ++ quoted source ++ codes " " ++ quoted target ++ codes " " ++ quoted fstype
-    ++ codes " flags=" ++ decimal flags ++ codes " data=" ++ quoted options ++ codes " via=" ++ program_text via
-    ++ codes " shift=" ++ shift_text shift
-request_text (SetXattr path name value flags) =
-    codes "setxattr " ++ quoted path ++ codes " " ++ quoted name ++ codes " " ++ hex_or_dash value ++ codes " flags=" ++ decimal flags
-request_text (OpenAt dirfd path flags) = codes "openat"
-request_text (Sysinfo addr) = codes "sysinfo"
-request_text (Other nr) = call_text nr
+request_text q = call_line (called q)
 
 -- the number at which a descriptor is asked for: `-` where the flags lack SECCOMP_ADDFD_FLAG_SETFD
 abbrev pub target_text : Bool → ℕ → List ℕ
 target_text true newfd = decimal newfd
 target_text false newfd = codes "-"
 
+-- whether the installation answers the call, too: ` nosend` where the flags lack SECCOMP_ADDFD_FLAG_SEND
+abbrev pub sending_text : Bool → List ℕ
+sending_text true = []
+sending_text false = codes " nosend"
+
 abbrev pub asked_text : Addfd → List ℕ
 asked_text asked =
     decimal asked.id ++ codes " src=" ++ decimal asked.srcfd ++ codes " at=" ++ target_text (asked.flags % 2 == 1) asked.newfd
+    ++ sending_text (has_send_flag asked)
 
 -- what happened, in words
 abbrev pub what_text : What → List ℕ

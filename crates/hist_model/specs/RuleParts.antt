@@ -16,7 +16,8 @@ use Rattle.hist_model.specs.declared.policy.Verdict.{Verdict}
 use Rattle.hist_model.specs.declared.policy.Verdict.TheVariants.{Grant, Deny, Pass, Inject}
 use Rattle.hist_model.specs.declared.request.Kind.{Kind}
 use Rattle.hist_model.specs.declared.request.Kind.TheVariants.{Reg, Chr, Blk, Fifo, Sock, Dir, Bad}
-use Rattle.sys_abi.specs.Calls.{nr_sysinfo, nr_mknod, nr_mount, nr_setxattr, nr_openat, nr_mknodat}
+use Rattle.call_table.specs.Table.{has_path, is_call_with, makes_node, may_be_granted}
+use Rattle.sys_abi.specs.Calls.{nr_mknod, nr_mount, nr_setxattr, nr_openat, nr_mknodat}
 use Rattle.sys_abi.specs.Errnos.{errno_name}
 
 -- ---- Names
@@ -104,14 +105,6 @@ is_condition (Flags all none) = true
 is_condition ShortDevice = false
 is_condition PlainFlags = true
 
--- the calls with a path, or a target
-abbrev pub path_calls : List ℤ
-path_calls = pos nr_mknod ∷ pos nr_mknodat ∷ pos nr_openat ∷ pos nr_setxattr ∷ pos nr_mount ∷ []
-
--- the calls that make a node
-abbrev pub node_calls : List ℤ
-node_calls = pos nr_mknod ∷ pos nr_mknodat ∷ []
-
 -- the calls with the descriptor of a directory; mknod's is always AT_FDCWD
 abbrev pub dirfd_calls : List ℤ
 dirfd_calls = pos nr_mknod ∷ pos nr_mknodat ∷ pos nr_openat ∷ []
@@ -131,17 +124,17 @@ are_flags_of nr flags = list_all (λ f. int_eq (call_of_flag f) nr) flags
 
 -- a condition is for this call
 abbrev pub is_for : Cond → ℤ → Bool
-is_for (Path text) nr = is_among path_calls nr
-is_for (Under dir) nr = is_among path_calls nr
-is_for (OfKind kind) nr = is_among node_calls nr
-is_for (Dev major minor) nr = is_among node_calls nr
+is_for (Path text) nr = is_call_with has_path nr
+is_for (Under dir) nr = is_call_with has_path nr
+is_for (OfKind kind) nr = is_call_with makes_node nr
+is_for (Dev major minor) nr = is_call_with makes_node nr
 is_for (Fstype text) nr = is_among (pos nr_mount ∷ []) nr
 is_for (Source text) nr = is_among (pos nr_mount ∷ []) nr
 is_for (Name text) nr = is_among (pos nr_setxattr ∷ []) nr
 is_for (Value text) nr = is_among (pos nr_setxattr ∷ []) nr
 is_for (Dirfd number) nr = is_among dirfd_calls nr
 is_for (Flags all none) nr = is_among flag_calls nr && (are_flags_of nr all && are_flags_of nr none)
-is_for ShortDevice nr = is_among node_calls nr
+is_for ShortDevice nr = is_call_with makes_node nr
 is_for PlainFlags nr = true
 
 abbrev pub is_plain_flags : Cond → Bool
@@ -163,13 +156,9 @@ is_answer Pass = true
 is_answer (Deny error) = is_some (errno_name error)
 is_answer (Inject src at) = is_from 0 src && is_from_if_some 0 at
 
--- the calls that may be granted
-abbrev pub granted_calls : List ℤ
-granted_calls = pos nr_mknod ∷ pos nr_mknodat ∷ pos nr_mount ∷ pos nr_setxattr ∷ pos nr_sysinfo ∷ []
-
 -- a call may be answered so: some calls are granted, openat alone gets files, and every call may be denied and passed
 abbrev pub may_answer : Verdict → ℤ → Bool
-may_answer Grant nr = is_among granted_calls nr
+may_answer Grant nr = is_call_with may_be_granted nr
 may_answer (Inject src at) nr = is_among (pos nr_openat ∷ []) nr
 may_answer (Deny error) nr = true
 may_answer Pass nr = true

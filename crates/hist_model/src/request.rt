@@ -1,19 +1,16 @@
 //! What a call asks for, and what the tree and the tables are made of.
 
 ghost use Rattle.std.specs.Prelude.{◌≡◌, IfOk};
-ghost use Rattle.hist_model.specs.Requests.{low_32};
+ghost use Rattle.hist_model.specs.Requests.{low_32, natural};
 
 use crate::text::{Sequence, Text};
 use std::alloc::Global;
 use sys_abi::calls;
 use sys_abi::memory::NoMemory;
 
-/// A task, as a table of tasks names it: by its slot, and by its ordinal, which is the number of tasks that were made before
-/// it and is no other task's. A slot is used again once its task is reaped, so a reference reaches a task only where the
-/// ordinals are the same, and that of a reaped task reaches nothing.
+/// A task, by its ordinal: the number of tasks that were made before it. No other task has it, and it stays after the reaping.
 #[derive(Clone, Copy, PartialEq, Eq, Debug)]
 pub struct TaskRef {
-    pub slot: usize,
     pub ordinal: u32,
 }
 
@@ -98,6 +95,13 @@ pub enum Obj {
     Broker(u32),
 }
 
+/// A number that isn't negative; 0 in the place of one that is.
+fn natural(number: i32) -> u64
+    ensures { result ≡ natural number }
+{
+    if number < 0 { 0 } else { number as u64 }
+}
+
 /// What a call asks for, with its arguments read.
 #[derive(Debug, Drop)]
 pub enum Request {
@@ -142,7 +146,7 @@ pub enum Request {
 }
 
 impl Request {
-    ghost use Rattle.hist_model.specs.Requests.{call_of_request};
+    ghost use Rattle.hist_model.specs.Requests.{call_of_request, called, descriptor_at, natural_at, text_at};
 
     /// A copy of this request.
     pub fn copied(&self, alloc: Global) -> Result<Request, NoMemory>
@@ -196,6 +200,66 @@ impl Request {
             Request::Sysinfo { addr } => Request::Sysinfo { addr: *addr },
             Request::Other { nr } => Request::Other { nr: *nr },
         })
+    }
+
+    /// One of its texts, by its place in the row of its call; empty where it has fewer.
+    pub fn text(&self, place: u8) -> &[u8]
+        ensures { result.now ≡ text_at (called self.now).texts place }
+    {
+        match (self, place) {
+            (Request::Mknod { path, .. }, 0) => path.items(),
+            (Request::Mount { source, .. }, 0) => source.items(),
+            (Request::Mount { target, .. }, 1) => target.items(),
+            (Request::Mount { fstype, .. }, 2) => fstype.items(),
+            (Request::Mount { options, .. }, 3) => options.items(),
+            (Request::Mount { via, .. }, 4) => via.items(),
+            (Request::SetXattr { path, .. }, 0) => path.items(),
+            (Request::SetXattr { name, .. }, 1) => name.items(),
+            (Request::SetXattr { value, .. }, 2) => value.items(),
+            (Request::OpenAt { path, .. }, 0) => path.items(),
+            _ => &[],
+        }
+    }
+
+    /// One of its numbers that has no sign, by its place; 0 in the place of a negative one.
+    pub fn natural(&self, place: u8) -> u64
+        ensures { result ≡ natural_at (called self.now) place }
+    {
+        match (self, place) {
+            (Request::Mknod { mode, .. }, 0) => u64::from(*mode),
+            (Request::Mknod { dev, .. }, 1) => *dev,
+            (
+                Request::Mknod {
+                    dirfd: Some(fd),
+                    ..
+                },
+                2,
+            ) => natural(*fd),
+            (Request::Mount { flags, .. }, 0) => *flags,
+            (Request::Mount { shift, .. }, 1) => u64::from(*shift),
+            (Request::SetXattr { flags, .. }, 0) => u64::from(*flags),
+            (Request::OpenAt { dirfd, .. }, 0) => natural(*dirfd),
+            (Request::OpenAt { flags, .. }, 1) => u64::from(*flags),
+            (Request::Sysinfo { addr }, 0) => *addr,
+            _ => 0,
+        }
+    }
+
+    /// One of its descriptors, by its place; 0 in the place of any other number.
+    pub fn descriptor(&self, place: u8) -> i32
+        ensures { result ≡ descriptor_at (called self.now) place }
+    {
+        match (self, place) {
+            (
+                Request::Mknod {
+                    dirfd: Some(fd),
+                    ..
+                },
+                2,
+            ) => *fd,
+            (Request::OpenAt { dirfd, .. }, 0) => *dirfd,
+            _ => 0,
+        }
     }
 
     /// The number of the call that asks for it.

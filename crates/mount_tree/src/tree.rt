@@ -1,6 +1,6 @@
 //! The tree, with its changes.
 
-ghost use Rattle.std.specs.Prelude.{◌≡◌, ◌++◌, true, false, ◌<◌, ◌≤◌, ◌+◌, length, Some, IfOk, IfSome, OnOk, OnErr, None, is_some};
+ghost use Rattle.std.specs.Prelude.{◌≡◌, ◌++◌, true, false, ◌<◌, ◌≤◌, ◌+◌, length, Some, IfOk, IfNone, IfSome, OnOk, OnErr, None, is_some};
 ghost use Rattle.hist_model.specs.Trees.{bare_tree, stated, with_line, with_node, with_mount, with_attr, ordinal_of, entry, node_at, is_dir_at, attr, up, top, mount_on, target_of, parent_of, row_in};
 ghost use Rattle.mount_tree.specs.Looks.{has_value, newest_root};
 ghost use Rattle.mount_tree.specs.Stacks.{IsApart};
@@ -132,6 +132,17 @@ impl Tree {
         ensures { node_at self.now.tree n.ordinal ≡ Some result.now }
     {
         &self.nodes.rows()[n.ordinal as usize].node
+    }
+
+    /// The node of an ordinal; none where no such node was made.
+    pub fn get(&self, n: NodeRef) -> Option<&Node>
+        ensures some { IfSome result (λ node. node_at self.now.tree n.ordinal ≡ Some node.now) }
+        ensures none { IfNone result (node_at self.now.tree n.ordinal ≡ None) }
+    {
+        match row(self.nodes.rows(), n.ordinal) {
+            Some(row) => Some(&row.node),
+            None => None,
+        }
     }
 
     /// Whether there is such a node, and it is a directory.

@@ -4,12 +4,16 @@ use Rattle.std.proofs.Common.{inl, inr, ◌≡◌, ℕ, ◌+◌, ◌-◌, ◌<�
 use Rattle.std.specs.Prelude.{Result, Ok, Err, ℤ, pos, negsuc, nat_le, nat_lt, ◌==◌, if◌then◌else◌, ⊤}
 use Rattle.std.proofs.lemmas.Bool.{cases_Bool}
 use Rattle.std.proofs.lemmas.Bool.Decides.{nat_tests}
-use Rattle.hist_model.specs.Copies.{Reading, Asks, Whole, Fails, Progress, Wants, Complete, Faulty, further, has_zero, begun_with, text_goes_on, text_piece, read_text, value_piece, read_value, read_sized, read_part, progress_with, progress_after, progress, wanted, plan, option_at, arg}
+use Rattle.hist_model.specs.Copies.{Reading, Asks, Whole, Fails, Progress, Wants, Complete, Faulty, further, has_zero, begun_with, text_goes_on, text_piece, read_text, value_piece, read_value, read_sized, read_part, progress_with, progress_after, progress, wanted, parts_for, plan, option_at, arg}
 use Rattle.hist_model.specs.declared.copy.Part.{Part}
 use Rattle.hist_model.specs.declared.copy.Part.TheVariants.{Text, Value}
 use Rattle.arg_capture.specs.Moments.{IsPlaced, ArePlaced}
 use Rattle.native_calls.specs.Copied.{AllGive}
-use Rattle.sys_abi.specs.Calls.{nr_mknod, nr_mknodat, nr_openat, nr_mount, nr_setxattr}
+use Rattle.call_table.proofs.AtRow.{at_row}
+use Rattle.call_table.specs.Table.{mknod_row, mknodat_row, mount_row, openat_row, setxattr_row, table}
+use Rattle.call_table.specs.declared.kinds.CallText.{CallText}
+use Rattle.call_table.specs.declared.kinds.CallText.TheVariants.{Path, Source, Fstype, Data, Name, Program}
+use Rattle.call_table.specs.declared.kinds.CallText.TheVariants as call_text
 
 -- a reading of at most so many bytes asks after fewer answers, and is whole after as many
 abbrev IsWithin : ℕ → ℕ → Reading → Type 0
@@ -102,23 +106,52 @@ copy-early [] answers p g = tt
 copy-early (part ∷ parts) answers p g =
     after-early (most_of part) (most_of_all parts) (length answers) (read_part part answers) (progress parts) (part-within part answers p.0 g) (λ later i. copy-early parts later p.1 i)
 
-most-if : (b : Bool) (xs ys : List Part) → most_of_all xs ≤ 16384 → most_of_all ys ≤ 16384 → most_of_all (if b then xs else ys) ≤ 16384
-most-if true xs ys h g = h
-most-if false xs ys h g = g
-
 option-most : (a : ℕ) → most_of (option_at a) ≤ 4096
 option-most a = elim (cases_Bool (a == 0)) [ inl h ↦ rw h (omega arith) | inr h ↦ rw h (omega arith) ]
 
 value-most : (a size : ℕ) → most_of (Value a size) ≤ 4096
 value-most a size = elim (cases_Bool (nat_lt 4096 size)) [ inl h ↦ rw h (omega arith) | inr h ↦ rw h (grind (arith, nat_tests)) ]
 
+-- the most bytes that are read for a text of a call
+abbrev reads : CallText → ℕ
+reads Program = 0
+reads _ = 4096
+
+abbrev reads_of : List CallText → ℕ
+reads_of [] = 0
+reads_of (t ∷ ts) = reads t + reads_of ts
+
+parts-most : (texts : List CallText) (args : List ℕ) → most_of_all (parts_for texts args) ≤ reads_of texts
+parts-most [] args = omega arith
+parts-most (Path r ∷ ts) args = omega (arith, parts-most ts args)
+parts-most (Source r ∷ ts) args = omega (arith, option-most (arg args r), parts-most ts args)
+parts-most (Fstype r ∷ ts) args = omega (arith, option-most (arg args r), parts-most ts args)
+parts-most (Data r ∷ ts) args = omega (arith, option-most (arg args r), parts-most ts args)
+parts-most (Name r ∷ ts) args = omega (arith, parts-most ts args)
+parts-most (call_text.Value r size ∷ ts) args = omega (arith, value-most (arg args r) (arg args size), parts-most ts args)
+parts-most (Program ∷ ts) args = omega (arith, parts-most ts args)
+
+row-most : (texts : List CallText) (args : List ℕ) → nat_le (reads_of texts) 16384 ≡ true → most_of_all (parts_for texts args) ≤ 16384
+row-most texts args h = let m = parts-most texts args in grind (arith, nat_tests)
+
 plan-most : (nr : ℤ) (args : List ℕ) → most_of_all (plan nr args) ≤ 16384
-plan-most (pos nr) args =
-    most-if (nr == nr_mknod) _ _ (omega arith) (
-    most-if (nr == nr_mknodat) _ _ (omega arith) (
-    most-if (nr == nr_openat) _ _ (omega arith) (
-    most-if (nr == nr_mount) _ _ (omega (arith, option-most (arg args 0), option-most (arg args 2), option-most (arg args 4))) (
-    most-if (nr == nr_setxattr) _ _ (omega (arith, value-most (arg args 2) (arg args 3))) (omega arith)))))
+plan-most (pos nr) args = at_row (λ m. most_of_all (plan (pos m) args) ≤ 16384) table nr (
+  omega arith,
+  (
+    omega arith,
+    (
+      omega arith,
+      (
+        row-most mknod_row.texts args refl,
+        (
+          row-most mount_row.texts args refl,
+          (row-most setxattr_row.texts args refl, (row-most openat_row.texts args refl, (row-most mknodat_row.texts args refl, tt))),
+        ),
+      ),
+    ),
+  ),
+)
+    (λ h. rw h (omega arith))
 plan-most (negsuc nr) args = omega arith
 
 early-ends : (most count : ℕ) (p : Progress) → IsEarly most count p → most ≤ count → wanted p ≡ None

@@ -1,9 +1,8 @@
 -- A call as a file of calls has it, without what matters to no rule but a mount's data.
 use Rattle.std.specs.Prelude.{ℕ, List, [], ◌∷◌, ◌++◌, Option, Some, None, ℤ, codes}
 use Rattle.std.specs.Fmt.{signed_decimal}
-use Rattle.hist_model.specs.ReportJournal.{maker_text, node_text}
+use Rattle.hist_model.specs.ReportJournal.{request_text}
 use Rattle.hist_model.specs.ReportWords.{quoted}
-use Rattle.hist_model.specs.Requests.{kind_of, low_32}
 use Rattle.hist_model.specs.declared.request.Request.{Request}
 use Rattle.hist_model.specs.declared.request.Request.TheVariants.{Mknod, Mount, SetXattr, OpenAt, Sysinfo, Other}
 use Rattle.sys_abi.specs.Calls.{call_name_of}
@@ -20,7 +19,7 @@ other_text None nr = codes "other " ++ signed_decimal nr
 
 -- the call with its texts, its numbers and the names of its flags
 abbrev pub asked_text : Request → List ℕ
-asked_text (Mknod dirfd path mode dev) = maker_text dirfd ++ quoted path ++ codes " " ++ node_text (kind_of mode) (low_32 dev)
+asked_text (Mknod dirfd path mode dev) = request_text (Mknod dirfd path mode dev)
 asked_text (Mount source target fstype options via flags shift) =
     codes "mount " ++ quoted source ++ codes " " ++ quoted target ++ codes " " ++ quoted fstype ++ codes " "
     ++ flags_text (Mount source target fstype options via flags shift) ++ data_text options
@@ -28,5 +27,5 @@ asked_text (SetXattr path name value flags) =
     codes "setxattr " ++ quoted path ++ codes " " ++ quoted name ++ codes " " ++ quoted value ++ codes " "
     ++ flags_text (SetXattr path name value flags)
 asked_text (OpenAt dirfd path flags) = codes "openat " ++ signed_decimal dirfd ++ codes " " ++ quoted path
-asked_text (Sysinfo addr) = codes "sysinfo"
+asked_text (Sysinfo addr) = request_text (Sysinfo addr)
 asked_text (Other nr) = other_text (call_name_of nr) nr

@@ -1,6 +1,6 @@
 //! The words for what a call misses of a rule.
 
-ghost use Rattle.std.specs.Prelude.{◌≡◌, ◌++◌, OnOk, codes, decimal};
+ghost use Rattle.std.specs.Prelude.{◌≡◌, ◌++◌, OnOk, codes};
 ghost use Rattle.std.specs.List.{flat_map, join_by};
 ghost use Rattle.std.specs.Option.{option_copied};
 ghost use Rattle.hist_model.specs.ReportWords.{call_text, quoted};
@@ -60,7 +60,7 @@ fn push_asked_kind(line: &mut LineBuffer, request: &Request) -> Result<(), NoMem
     }
 }
 
-/// Adds the same, with the numbers of a device.
+/// Adds the kind of the node that is asked for, with the numbers of a device.
 fn push_asked_node(line: &mut LineBuffer, request: &Request) -> Result<(), NoMemory>
     ensures { OnOk result (line.new ≡ line.old ++ asked_node request.now) }
 {

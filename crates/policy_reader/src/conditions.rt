@@ -15,6 +15,7 @@ ghost use Rattle.serde_json.specs.View.{view};
 use crate::flags::read_flags;
 use crate::readings::{Reading, bad_in_rule, unknown_in_rule};
 use crate::texts::{cut_at, decimal_up_to, named};
+use call_table::rows::{has_path, makes_node};
 use hist_model::policy::{Cond, Flag, Profile};
 use hist_model::request::Kind;
 use hist_model::text::{Sequence, Text};
@@ -77,23 +78,11 @@ const MAJOR_MAX: u32 = 4095;
 
 const MINOR_MAX: u32 = 1_048_575;
 
-/// The calls with a path, or a target.
-const PATH_CALLS: [i32; 5] = [
-    calls::MKNOD,
-    calls::MKNODAT,
-    calls::OPENAT,
-    calls::SETXATTR,
-    calls::MOUNT,
-];
-
 /// The calls with the descriptor of a directory; mknod's is always AT_FDCWD.
 const DIRFD_CALLS: [i32; 3] = [calls::MKNOD, calls::MKNODAT, calls::OPENAT];
 
 /// The calls with flags that conditions name.
 const FLAG_CALLS: [i32; 2] = [calls::MOUNT, calls::SETXATTR];
-
-/// The calls that make a node.
-const NODE_CALLS: [i32; 2] = [calls::MKNOD, calls::MKNODAT];
 
 /// The key of this name whose value is a text, in every policy.
 fn text_key_named(name: &str) -> Option<TextKey>
@@ -310,8 +299,8 @@ fn is_for(cond: &Cond, nr: i32) -> bool
     ensures { result ≡ is_for cond.now nr }
 {
     match cond {
-        Cond::Path(_) | Cond::Under(_) => PATH_CALLS.contains(&nr),
-        Cond::Kind(_) | Cond::Dev(_, _) | Cond::ShortDevice => NODE_CALLS.contains(&nr),
+        Cond::Path(_) | Cond::Under(_) => has_path(nr),
+        Cond::Kind(_) | Cond::Dev(_, _) | Cond::ShortDevice => makes_node(nr),
         Cond::Dirfd(_) => DIRFD_CALLS.contains(&nr),
         Cond::Fstype(_) | Cond::Source(_) => nr == calls::MOUNT,
         Cond::Name(_) | Cond::Value(_) => nr == calls::SETXATTR,

@@ -11,6 +11,7 @@ ghost use Rattle.sys_abi.specs.Errnos.{errno_of_name};
 
 use crate::readings::{Reading, bad_in_rule, good_in_rule, unknown_in_rule};
 use crate::texts::{named, whole_from};
+use call_table::rows::may_be_granted;
 use hist_model::policy::Verdict;
 use serde_json::{Map, Value};
 use std::alloc::Global;
@@ -43,15 +44,6 @@ const KEYS: [(&'static str, AnswerKey); 3] = [
     ("at", AnswerKey::At),
     ("deny", AnswerKey::Deny),
     ("inject", AnswerKey::Inject),
-];
-
-/// The calls that may be granted.
-const GRANTED_CALLS: [i32; 5] = [
-    calls::MKNOD,
-    calls::MKNODAT,
-    calls::MOUNT,
-    calls::SETXATTR,
-    calls::SYSINFO,
 ];
 
 /// The answer of this word.
@@ -174,7 +166,7 @@ fn may_answer(verdict: &Verdict, nr: i32) -> bool
     ensures { result ≡ may_answer verdict.now nr }
 {
     match verdict {
-        Verdict::Grant => GRANTED_CALLS.contains(&nr),
+        Verdict::Grant => may_be_granted(nr),
         Verdict::Inject { .. } => nr == calls::OPENAT,
         Verdict::Deny(_) | Verdict::Pass => true,
     }

@@ -7,7 +7,7 @@ use Rattle.audit_log.specs.Received.{TellsReceived}
 use Rattle.audit_log.specs.Records.{HasEntries, Tells, record_in}
 use Rattle.audit_log.specs.Requests.{AnswersAre, TellsInstalled}
 use Rattle.audit_log.specs.Tables.{TellsTables}
-use Rattle.audit_log.specs.declared.call_table.CallTable.{CallTable}
+use Rattle.audit_log.specs.declared.kept_calls.CallTable.{CallTable}
 use Rattle.audit_log.specs.declared.places.CallPlaces.{CallPlaces}
 use Rattle.audit_log.specs.declared.records.CallRecords.{CallRecords}
 use Rattle.audit_log.specs.declared.tables.Tables.{Tables}
