@@ -1,3 +1,4 @@
 pub mod Passes
 pub mod Seen
+pub mod Newest
 pub mod Closing

@@ -1,3 +1,4 @@
 pub mod Duties
+pub mod Errands
 pub mod Locks
 pub mod Beside

@@ -2,12 +2,34 @@
 
 ghost use Rattle.std.specs.Prelude.{◌≡◌, ◌+◌, ◌≤◌, length, true};
 ghost use Rattle.crew.specs.Duties.{MayServe};
+ghost use Rattle.crew.specs.Errands.{IsReceived, StepsFor};
 ghost use Rattle.turn_lock.specs.Lists.{Begins};
 
 use crate::gate::Point;
 use crate::work::Work;
 use hist_model::history::Journalled;
+use lane_queue::Handoff;
 use std::alloc::Global;
+
+/// What a turn is for.
+#[derive(Clone, Copy, Debug)]
+pub struct Errand {
+    /// The worker of which it is a step, if the thread serves as one.
+    pub worker: Option<u8>,
+    /// The notification that the thread was handed, with its seat, if it serves a lane.
+    pub handed: Option<Handoff>,
+    /// The kinds of work of which it is a step otherwise.
+    pub work: Work,
+}
+
+impl Errand {
+    /// Nothing.
+    pub(crate) const NONE: Errand = Errand {
+        worker: None,
+        handed: None,
+        work: Work::NONE,
+    };
+}
 
 /// What a turn came to.
 #[derive(Clone, Copy, PartialEq, Eq, Debug)]
@@ -18,6 +40,13 @@ pub enum Came {
     Idle,
     /// A step was taken.
     Stepped,
+    /// A notification was received, which is for this lane.
+    Received {
+        lane: u8,
+        item: Handoff,
+    },
+    /// The notification that the thread was handed was let go.
+    LetGo,
     /// A step was taken by which the service of the notification with this id came to a point.
     Reached {
         point: Point,
@@ -72,12 +101,15 @@ pub trait Crewed: Journalled {
     /// What is so of the history of a state with this setup, where nothing is left to do.
     ghost ends: { Setup → List Event → Type 0 };
 
-    /// A step of a worker, if one is given, or else of this work; and what there is to do after it.
-    fn serve(&mut self, alloc: Global, worker: Option<u8>, work: Work) -> Turned
-        requires may { MayServe (Self.setup self.old).limit worker }
+    /// A step of the errand's worker, if it has one, or at the seat of the notification that was handed over, or else of the errand's
+    /// work; and what there is to do after it.
+    fn serve(&mut self, alloc: Global, errand: Errand) -> Turned
+        requires may { MayServe (Self.setup self.old).limit errand.worker }
         ensures setup { Self.setup self.new ≡ Self.setup self.old }
         ensures history { Begins (Self.history self.new).events (Self.history self.old).events }
-        ensures one { length (Self.history self.new).events ≤ length (Self.history self.old).events + 1 };
+        ensures one { length (Self.history self.new).events ≤ length (Self.history self.old).events + 1 }
+        ensures errand { StepsFor errand (Self.history self.old).events (Self.history self.new).events }
+        ensures received { IsReceived result.came (Self.history self.old).events (Self.history self.new).events };
 
     /// Whether nothing is left to do.
     fn is_served(&self) -> bool

@@ -10,16 +10,21 @@
 
 ghost use Rattle.std.specs.Prelude.{◌≡◌, ◌<◌, IfOk, IfSome};
 
+use crate::crewed::Turned;
 use crate::duty::Duty;
+use crate::lanes::{Handed, Lanes};
 use crate::work::{KINDS, Seekers, Work};
+use lane_queue::Handoff;
 use std::alloc::Global;
 use std::sync::{Condvar, Mutex, MutexGuard, Wait};
 use sys_abi::memory::NoMemory;
 
 /// What the last turn left in a container.
-#[derive(Clone, Copy, Debug)]
+#[derive(Drop)]
 struct Room {
+    /// The work that is left beside that of lanes.
     left: Work,
+    lanes: Lanes,
     /// The work that a thread at the gate keeps from the others.
     kept: Work,
     is_open: bool,
@@ -28,7 +33,11 @@ struct Room {
 impl Room {
     /// The work that a thread may do which doesn't keep some.
     fn free(&self) -> Work {
-        self.left.without(self.kept)
+        if self.is_open {
+            self.left.with(self.lanes.work()).without(self.kept)
+        } else {
+            Work::NONE
+        }
     }
 }
 
@@ -51,12 +60,13 @@ pub(crate) struct Board {
 }
 
 impl Board {
-    /// Containers of which each has a task that may step, and threads of which none has begun.
-    fn new(alloc: Global, containers: u8, threads: usize) -> Result<Board, NoMemory> {
+    /// Containers of which each has a task that may step, and so many lanes, and threads of which none has begun.
+    fn new(alloc: Global, containers: u8, lanes: u8, threads: usize) -> Result<Board, NoMemory> {
         let mut rooms = Vec::new(alloc);
         for _ in 0..containers {
             rooms.push(Room {
                 left: Work::TASKS,
+                lanes: Lanes::new(alloc, lanes)?,
                 kept: Work::NONE,
                 is_open: true,
             })?;
@@ -94,11 +104,59 @@ impl Board {
         }
     }
 
-    /// Notes what a turn left in a container, and whether it is over.
-    pub(crate) fn note(&mut self, container: u8, left: Work, is_over: bool) {
+    /// Notes what a turn left in a container.
+    pub(crate) fn note(&mut self, container: u8, turned: &Turned) {
         if let Some(room) = self.rooms.get_mut(usize::from(container)) {
-            room.left = if is_over { Work::NONE } else { left };
-            room.is_open = !is_over;
+            room.left = turned.left;
+            room.is_open = !turned.is_over;
+            if turned.settled {
+                room.lanes.settle();
+            }
+        }
+    }
+
+    /// Hands out what is next in the first lane among this work in a container that has something.
+    pub(crate) fn hand_out<W: Wait>(
+        &mut self,
+        rt: &W,
+        container: u8,
+        work: Work,
+    ) -> Option<Handed> {
+        match self.rooms.get_mut(usize::from(container)) {
+            Some(room) => room.lanes.next(rt, work),
+            None => None,
+        }
+    }
+
+    /// Puts a notification that was received in a container into its lane's queue.
+    pub(crate) fn put<W: Wait>(
+        &mut self,
+        rt: &W,
+        container: u8,
+        lane: u8,
+        item: Handoff,
+    ) -> Result<(), NoMemory> {
+        match self.rooms.get_mut(usize::from(container)) {
+            Some(room) => room.lanes.put(rt, lane, item),
+            None => Err(NoMemory),
+        }
+    }
+
+    /// What was handed out of this lane, if something was, waits for its request for a descriptor.
+    pub(crate) fn wait(&mut self, container: u8, handed: Option<Handed>) {
+        if let Some(room) = self.rooms.get_mut(usize::from(container))
+            && let Some(Handed { lane, .. }) = handed
+        {
+            room.lanes.wait(lane);
+        }
+    }
+
+    /// What was handed out of this lane, if something was, was let go.
+    pub(crate) fn let_go<W: Wait>(&mut self, rt: &W, container: u8, handed: Option<Handed>) {
+        if let Some(room) = self.rooms.get_mut(usize::from(container))
+            && let Some(Handed { lane, .. }) = handed
+        {
+            room.lanes.let_go(rt, lane);
         }
     }
 
@@ -119,7 +177,6 @@ impl Board {
     /// All containers are over, since a thread found no memory.
     pub(crate) fn give_up(&mut self) {
         for room in self.rooms.iter_mut() {
-            room.left = Work::NONE;
             room.is_open = false;
         }
     }
@@ -201,6 +258,16 @@ impl Board {
         sleeper.take()
     }
 
+    /// Closes the queues of all lanes. Where something was left in one, a thread found no memory.
+    fn close<W: Wait>(self, rt: &W, alloc: Global) -> Result<(), NoMemory> {
+        let Board { mut rooms, .. } = self;
+        let mut empty = true;
+        while let Some(Room { lanes, .. }) = rooms.pop() {
+            empty &= lanes.close(rt, alloc)?;
+        }
+        if empty { Ok(()) } else { Err(NoMemory) }
+    }
+
     /// The first thread that sleeps for such work. The calling one, which does all kinds of work, comes last.
     fn sleeper_for(&self, work: Work) -> Option<usize> {
         for (place, sleeper) in self.asleep.iter().enumerate() {
@@ -225,11 +292,16 @@ pub(crate) struct Door {
 }
 
 impl Door {
-    /// A door for so many containers and threads. No thread has begun.
-    pub(crate) fn new(alloc: Global, containers: u8, threads: usize) -> Result<Door, NoMemory>
+    /// A door for so many containers with so many lanes each, and so many threads. No thread has begun.
+    pub(crate) fn new(
+        alloc: Global,
+        containers: u8,
+        lanes: u8,
+        threads: usize,
+    ) -> Result<Door, NoMemory>
         ensures { IfOk result (λ door. door.containers ≡ containers) }
     {
-        let board = Board::new(alloc, containers, threads)?;
+        let board = Board::new(alloc, containers, lanes, threads)?;
         let mut bells = Vec::new(alloc);
         for _ in 0..threads {
             bells.push(Condvar::new())?;
@@ -240,6 +312,12 @@ impl Door {
             seekers: Seekers::none(),
             bells,
         })
+    }
+
+    /// Closes the queues of all lanes. Where something was left in one, a thread found no memory.
+    pub(crate) fn close<W: Wait>(self, rt: &W, alloc: Global) -> Result<(), NoMemory> {
+        let Door { board, .. } = self;
+        board.into_inner().close(rt, alloc)
     }
 
     /// Waits for the door.

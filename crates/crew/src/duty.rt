@@ -68,6 +68,8 @@ fn by_lanes(place: u8, containers: u8) -> Duty
 pub struct Crew {
     pub(crate) calling: Duty,
     pub(crate) others: Vec<Duty>,
+    /// How many lanes each container has.
+    pub(crate) lanes: u8,
 }
 
 impl Crew {
@@ -89,7 +91,11 @@ impl Crew {
             does: Work::ALL,
             helps: Work::NONE,
         };
-        Ok(Crew { calling, others })
+        Ok(Crew {
+            calling,
+            others,
+            lanes: 0,
+        })
     }
 
     /// For each of so many containers a thread that receives and one for each lane, `cpus` threads that step tasks, and the calling
@@ -110,6 +116,10 @@ impl Crew {
             does: Work::TASKS,
             helps: Work::ALL,
         };
-        Ok(Crew { calling, others })
+        Ok(Crew {
+            calling,
+            others,
+            lanes: LANES,
+        })
     }
 }

@@ -2,13 +2,15 @@
 
 ghost use Rattle.std.specs.Prelude.{◌≡◌, ◌≤◌, ◌<◌, ◌+◌, ℕ, [], length, map, vec_capacity, All, IfOk, IfSome, OnErr, OnOk};
 ghost use Rattle.crew.specs.Duties.{MayServe, Takes};
+ghost use Rattle.crew.specs.Errands.{StepsFor};
 ghost use Rattle.crew.specs.Locks.{Admits, AreOf, HaveSeen, IsFirst, MaySplit, seen_of, setup_of};
 
 use crate::beside::work_beside;
-use crate::crewed::{Came, Crewed, Turned};
+use crate::crewed::{Came, Crewed, Errand, Turned};
 use crate::door::{Board, Door, Wish};
 use crate::duty::{Crew, Duty};
 use crate::gate::Gate;
+use crate::lanes::Handed;
 use crate::locks::{join_all, split_all};
 use crate::work::Work;
 use std::alloc::Global;
@@ -17,22 +19,21 @@ use std::thread::Threads;
 use sys_abi::memory::NoMemory;
 use turn_lock::{Pass, Turn, TurnLock};
 
-/// A turn in whichever container: a step of the worker, if there is one, or else of this work.
+/// A turn in whichever container: a step for an errand.
 #[derive(Drop)]
 pub(crate) struct StepTurn {
     alloc: Global,
-    worker: Option<u8>,
-    work: Work,
+    errand: Errand,
     turned: Turned,
 }
 
 impl<S: Crewed> Turn<S> for StepTurn {
-    ghost plays = { λ t s u e. u.worker ≡ t.worker };
+    ghost plays = { λ t s u e. (u.errand ≡ t.errand) × StepsFor t.errand (S.history s).events (S.history e).events };
 
-    ghost asks = { λ t s. MayServe (S.setup s).limit t.worker };
+    ghost asks = { λ t s. MayServe (S.setup s).limit t.errand.worker };
 
     fn play(&mut self, state: &mut S) {
-        self.turned = state.serve(self.alloc, self.worker, self.work);
+        self.turned = state.serve(self.alloc, self.errand);
     }
 }
 
@@ -47,6 +48,8 @@ pub(crate) struct Hand {
     has_begun: bool,
     /// The container in which it took its last turn.
     container: u8,
+    /// What it was handed there of a lane.
+    handed: Option<Handed>,
     /// The work that others count on it to look for.
     seeks: Work,
     /// The work in that container that it keeps from others.
@@ -57,7 +60,7 @@ impl Hand {
     /// Comes back to the door, from its gate or its sleep, or for the first time.
     fn come_in(&mut self, door: &Door, board: &mut Board)
         ensures passes { self.new.passes ≡ self.old.passes }
-        ensures worker { self.new.turn.worker ≡ self.old.turn.worker }
+        ensures worker { self.new.turn.errand.worker ≡ self.old.turn.errand.worker }
     {
         if !self.has_begun {
             self.has_begun = true;
@@ -81,24 +84,30 @@ impl Hand {
         }
     }
 
-    /// A turn in a container, for which it is behind the door.
+    /// A turn in a container, for which it is behind the door: by what it is handed of a lane, or else of this work.
     fn turn_in<S: Crewed, W: Wait>(
         &mut self,
         rt: &W,
         locks: &Vec<TurnLock<S>>,
         container: u8,
+        handed: Option<Handed>,
         work: Work,
     )
         requires own { AreOf locks.now.items self.old.passes.items }
-        requires may { All (Admits self.old.turn.worker) locks.now.items }
+        requires may { All (Admits self.old.turn.errand.worker) locks.now.items }
         requires container { container < length locks.now.items }
         ensures own { AreOf locks.now.items self.new.passes.items }
-        ensures worker { self.new.turn.worker ≡ self.old.turn.worker }
+        ensures worker { self.new.turn.errand.worker ≡ self.old.turn.errand.worker }
     {
         let place = usize::from(container);
-        self.turn.work = work;
+        self.turn.errand.work = work;
+        self.turn.errand.handed = match handed {
+            Some(handed) => Some(handed.item),
+            None => None,
+        };
         locks[place].turn(rt, &mut self.passes[place], &mut self.turn);
         self.container = container;
+        self.handed = handed;
     }
 
     /// What it sleeps for, where it found nothing to do.
@@ -120,7 +129,7 @@ impl Hand {
     /// Sleeps, where it found nothing to do, unless all containers are over; says whether they are.
     fn rest<W: Wait>(&mut self, rt: &W, door: &Door, mut board: MutexGuard<'_, Board>) -> bool
         ensures passes { self.new.passes ≡ self.old.passes }
-        ensures worker { self.new.turn.worker ≡ self.old.turn.worker }
+        ensures worker { self.new.turn.errand.worker ≡ self.old.turn.errand.worker }
     {
         if board.is_over() {
             door.wake_all(&mut board);
@@ -136,7 +145,7 @@ impl Hand {
     /// Leaves the door to look for work in its next turn.
     fn leave(&mut self, door: &Door, mut board: MutexGuard<'_, Board>)
         ensures passes { self.new.passes ≡ self.old.passes }
-        ensures worker { self.new.turn.worker ≡ self.old.turn.worker }
+        ensures worker { self.new.turn.errand.worker ≡ self.old.turn.errand.worker }
     {
         self.seeks = board.work_of(&self.duty);
         door.seek(self.seeks);
@@ -146,7 +155,7 @@ impl Hand {
     /// Calls the gate, where its turn came to a point of a notification's service, and then looks for work.
     fn call<G: Gate>(&mut self, gate: &G, door: &Door, mut board: MutexGuard<'_, Board>)
         ensures passes { self.new.passes ≡ self.old.passes }
-        ensures worker { self.new.turn.worker ≡ self.old.turn.worker }
+        ensures worker { self.new.turn.errand.worker ≡ self.old.turn.errand.worker }
     {
         let Came::Reached {
             point,
@@ -167,6 +176,22 @@ impl Hand {
         self.keeps = keeps;
     }
 
+    /// Notes what its turn left, and what became of the lanes; says whether there was memory.
+    fn note<W: Wait>(&self, rt: &W, board: &mut Board) -> bool {
+        let turned = self.turn.turned;
+        board.note(self.container, &turned);
+        match turned.came {
+            Came::NoMemory => return false,
+            Came::Received { lane, item } => {
+                return board.put(rt, self.container, lane, item).is_ok();
+            }
+            Came::LetGo => board.let_go(rt, self.container, self.handed),
+            Came::Idle => board.wait(self.container, self.handed),
+            Came::Stepped | Came::Reached { .. } => {}
+        }
+        true
+    }
+
     /// What it does after a turn, behind the door; says whether all containers are over.
     fn after_turn<W: Wait, G: Gate>(
         &mut self,
@@ -176,22 +201,21 @@ impl Hand {
         mut board: MutexGuard<'_, Board>,
     ) -> bool
         ensures passes { self.new.passes ≡ self.old.passes }
-        ensures worker { self.new.turn.worker ≡ self.old.turn.worker }
+        ensures worker { self.new.turn.errand.worker ≡ self.old.turn.errand.worker }
     {
         let turned = self.turn.turned;
-        board.note(self.container, turned.left, turned.is_over);
+        if !self.note(rt, &mut board) {
+            board.give_up();
+            door.wake_all(&mut board);
+            return true;
+        }
         if turned.settled {
             door.wake_settled(&mut board);
         }
         match turned.came {
-            Came::NoMemory => {
-                board.give_up();
-                door.wake_all(&mut board);
-                return true;
-            }
             Came::Idle if turned.in_hand => return self.rest(rt, door, board),
-            Came::Idle | Came::Stepped => self.leave(door, board),
             Came::Reached { .. } => self.call(gate, door, board),
+            _ => self.leave(door, board),
         }
         false
     }
@@ -206,17 +230,18 @@ fn take_turn<S: Crewed, W: Wait, G: Gate>(
     hand: &mut Hand,
 ) -> bool
     requires own { AreOf locks.now.items hand.old.passes.items }
-    requires may { All (Admits hand.old.turn.worker) locks.now.items }
+    requires may { All (Admits hand.old.turn.errand.worker) locks.now.items }
     requires count { door.now.containers ≡ length locks.now.items }
     ensures own { AreOf locks.now.items hand.new.passes.items }
-    ensures worker { hand.new.turn.worker ≡ hand.old.turn.worker }
+    ensures worker { hand.new.turn.errand.worker ≡ hand.old.turn.errand.worker }
 {
     let mut board = door.enter(rt);
     hand.come_in(door, &mut board);
     match hand.choose(&board, door.containers) {
         Some(container) => {
             let work = board.work_in(container, &hand.duty);
-            hand.turn_in(rt, locks, container, work);
+            let handed = board.hand_out(rt, container, work);
+            hand.turn_in(rt, locks, container, handed, work);
             hand.after_turn(rt, door, gate, board)
         }
         None => hand.rest(rt, door, board),
@@ -232,7 +257,7 @@ fn work<S: Crewed, W: Wait, G: Gate>(
     hand: &mut Hand,
 )
     requires own { AreOf locks.now.items hand.old.passes.items }
-    requires may { All (Admits hand.old.turn.worker) locks.now.items }
+    requires may { All (Admits hand.old.turn.errand.worker) locks.now.items }
     requires count { door.now.containers ≡ length locks.now.items }
     ensures own { AreOf locks.now.items hand.new.passes.items }
 {
@@ -258,20 +283,23 @@ fn new_hand<S: Crewed>(
     ensures seen { map seen_of firsts.new.items ≡ map seen_of firsts.old.items }
     ensures first { OnOk result ((n : ℕ) → All (IsFirst n) firsts.old.items → All (IsFirst (n + 1)) firsts.new.items) }
     ensures none { OnErr result (firsts.new.items ≡ firsts.old.items) }
-    ensures hand { IfOk result (λ h. AreOf locks.now.items h.passes.items × (h.turn.worker ≡ duty.worker)) }
+    ensures hand { IfOk result (λ h. AreOf locks.now.items h.passes.items × (h.turn.errand.worker ≡ duty.worker)) }
 {
     Ok(Hand {
         passes: split_all(alloc, locks, firsts)?,
         turn: StepTurn {
             alloc,
-            worker: duty.worker,
-            work: Work::NONE,
+            errand: Errand {
+                worker: duty.worker,
+                ..Errand::NONE
+            },
             turned: Turned::NONE,
         },
         duty,
         place,
         has_begun: false,
         container: 0,
+        handed: None,
         seeks: Work::NONE,
         keeps: Work::NONE,
     })
@@ -301,8 +329,8 @@ fn add_hands<S: Crewed>(
     ensures seen { map seen_of firsts.new.items ≡ map seen_of firsts.old.items }
     ensures first { OnOk result (All (IsFirst (length others.new.items + 1)) firsts.new.items) }
     ensures fewer { OnErr result (All (IsFirst (length others.new.items)) firsts.new.items) }
-    ensures calling { IfOk result (λ calling. AreOf locks.now.items calling.passes.items × All (Admits calling.turn.worker) locks.now.items) }
-    ensures others { All (λ h. AreOf locks.now.items h.passes.items × All (Admits h.turn.worker) locks.now.items) others.new.items }
+    ensures calling { IfOk result (λ calling. AreOf locks.now.items calling.passes.items × All (Admits calling.turn.errand.worker) locks.now.items) }
+    ensures others { All (λ h. AreOf locks.now.items h.passes.items × All (Admits h.turn.errand.worker) locks.now.items) others.new.items }
 {
     let count = crew.others.len();
     for place in 0..count {
@@ -328,8 +356,8 @@ pub(crate) fn all_hands<S: Crewed>(
     ensures seen { HaveSeen firsts.new.items firsts.old.items }
     ensures first { IfOk result (λ all. All (IsFirst (length all.others.items + 1)) firsts.new.items) }
     ensures none { OnErr result (All (IsFirst 0) firsts.new.items) }
-    ensures calling { IfOk result (λ all. AreOf locks.now.items all.calling.passes.items × All (Admits all.calling.turn.worker) locks.now.items) }
-    ensures others { IfOk result (λ all. All (λ h. AreOf locks.now.items h.passes.items × All (Admits h.turn.worker) locks.now.items) all.others.items) }
+    ensures calling { IfOk result (λ all. AreOf locks.now.items all.calling.passes.items × All (Admits all.calling.turn.errand.worker) locks.now.items) }
+    ensures others { IfOk result (λ all. All (λ h. AreOf locks.now.items h.passes.items × All (Admits h.turn.errand.worker) locks.now.items) all.others.items) }
 {
     let mut others = Vec::with_capacity(alloc, crew.others.len())?;
     match add_hands(alloc, locks, firsts, crew, &mut others) {
@@ -352,8 +380,8 @@ pub(crate) fn work_all<S: Crewed + Send, R: Threads + Wait + Sync, G: Gate + Syn
     others: &mut Vec<Hand>,
 )
     requires count { door.now.containers ≡ length locks.now.items }
-    requires calling { AreOf locks.now.items calling.old.passes.items × All (Admits calling.old.turn.worker) locks.now.items }
-    requires others { All (λ h. AreOf locks.now.items h.passes.items × All (Admits h.turn.worker) locks.now.items) others.old.items }
+    requires calling { AreOf locks.now.items calling.old.passes.items × All (Admits calling.old.turn.errand.worker) locks.now.items }
+    requires others { All (λ h. AreOf locks.now.items h.passes.items × All (Admits h.turn.errand.worker) locks.now.items) others.old.items }
     ensures calling { AreOf locks.now.items calling.new.passes.items }
     ensures number { length others.new.items ≡ length others.old.items }
     ensures others { All (λ h. AreOf locks.now.items h.passes.items) others.new.items }
@@ -363,7 +391,7 @@ pub(crate) fn work_all<S: Crewed + Send, R: Threads + Wait + Sync, G: Gate + Syn
         calling,
         others.as_mut_slice(),
         &|_: usize, hand: &mut Hand|
-            requires { AreOf locks.now.items hand.old.passes.items × All (Admits hand.old.turn.worker) locks.now.items × (door.now.containers ≡ length locks.now.items) }
+            requires { AreOf locks.now.items hand.old.passes.items × All (Admits hand.old.turn.errand.worker) locks.now.items × (door.now.containers ≡ length locks.now.items) }
             ensures { AreOf locks.entry.now.items hand.new.passes.items }
         { work(rt, locks, door, gate, hand) },
     );

@@ -42,13 +42,14 @@ pub fn serve_locked<S: Crewed + Send, R: Threads + Wait + Sync, G: Gate + Sync>(
     ensures ended { OnOk result (All (HasEnded S.ends) firsts.new.items) }
 {
     let containers = locks.len() as u8;
-    let door = Door::new(alloc, containers, crew.others.len() + 1)?;
+    let door = Door::new(alloc, containers, crew.lanes, crew.others.len() + 1)?;
     let Hands {
         mut calling,
         mut others,
     } = all_hands(alloc, locks, firsts, crew)?;
     work_all(rt, locks, &door, gate, &mut calling, &mut others);
     gather(locks, firsts, calling, others);
+    door.close(rt, alloc)?;
     see_ends(rt, locks, firsts)
 }
 

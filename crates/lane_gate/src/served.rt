@@ -1,16 +1,23 @@
 //! The state behind the listener's lock where lanes are served.
 
-ghost use Rattle.std.specs.Prelude.{◌≡◌, ◌<◌, ◌≤◌, IfOk, IfSome, Some};
+ghost use Rattle.std.specs.Prelude.{◌≡◌, ◌<◌, ◌≤◌, ◌∷◌, IfOk, IfSome, List, None, Some};
+ghost use Rattle.crew.specs.Errands.{IsReceived, MayStepFor, StepsFor};
+ghost use Rattle.crew.specs.declared.crewed.Errand.{Errand as ErrandValue};
 ghost use Rattle.hist_model.specs.Legal.{started};
+ghost use Rattle.hist_model.specs.Look.{ev};
 ghost use Rattle.hist_model.specs.declared.event.Actor.TheVariants.{Worker};
+ghost use Rattle.hist_model.specs.declared.event.Event.{Event};
 ghost use Rattle.lane_seats.specs.Lanes.{KeepsLanes as MayStep, Laned};
 ghost use Rattle.worker_gate.specs.Hands.{Ends};
 ghost use Rattle.worker_gate.specs.Keeping.{TakesTurn};
 
-use crew::{Came, Crewed, Point, Turned, Work};
+use call_table::rows::lane_of;
+use crew::{Came, Crewed, Errand, Turned, Work};
+use hist_model::event::What;
 use hist_model::history::{History, Journalled};
 use hist_model::policy::Policy;
 use hist_model::script::Script;
+use lane_queue::Handoff;
 use lane_seats::{SEATS, Seats};
 use std::alloc::Global;
 use std::marker::Model;
@@ -23,8 +30,20 @@ use worker_gate::Served;
 pub struct LaneServed {
     served: Served,
     seats: Seats,
-    /// The lanes whose next session waits for its request for a descriptor.
-    waiting: Work,
+}
+
+/// What a step of the worker at a seat came to.
+fn came_to(step: &What, seat: u8) -> Came
+    ensures { (K : List Event) → IsReceived result K (ev (Worker seat) step.now ∷ K) }
+{
+    match step {
+        What::Recv { answer: Ok(notif) } => Came::Received {
+            lane: lane_of(notif.call.nr),
+            item: Handoff { id: notif.id, seat },
+        },
+        What::LetGo => Came::LetGo,
+        _ => Came::Stepped,
+    }
 }
 
 impl Model for LaneServed {
@@ -63,11 +82,7 @@ impl LaneServed {
     {
         let served = Served::new(alloc, policy, script, Some(SEATS - 1), every)?;
         let seats = Seats::new();
-        Ok(LaneServed {
-            served,
-            seats,
-            waiting: Work::NONE,
-        })
+        Ok(LaneServed { served, seats })
     }
 
     /// The same without the table of seats. The history is laned.
@@ -79,109 +94,66 @@ impl LaneServed {
         served
     }
 
-    /// What the step came to that the worker at a seat took.
-    fn came(&mut self, seat: u8, lane: u8) -> Came
-        ensures { self.new ≡ self.old }
-    {
-        match self.served.point(seat) {
-            Some((Point::Fetched, _)) | None => Came::Stepped,
-            Some((point, id)) => Came::Reached {
-                point,
-                server: lane,
-                id,
-                keeps: Work::lane(lane),
-            },
-        }
-    }
-
-    /// A step of the worker at a seat, unless it waits; says whether it took one.
-    fn step_seat(&mut self, alloc: Global, seat: u8) -> Result<bool, NoMemory>
+    /// A step of the worker at a seat, unless it waits; tells what it came to.
+    fn step_seat(&mut self, alloc: Global, seat: u8) -> Result<Came, NoMemory>
         requires seat { seat ≤ 15 }
         requires may { MayStep self.old.history.events (Worker seat) }
-        ensures { TakesTurn self.old self.new }
+        ensures turn { TakesTurn self.old self.new }
+        ensures errand { (errand : ErrandValue) → MayStepFor errand self.old.history.events seat → StepsFor errand self.old.history.events self.new.history.events }
+        ensures received { IfOk result (λ came. IsReceived came self.old.history.events self.new.history.events) }
     {
         let place = self.served.journal().len();
         let stepped = self.served.step_worker(alloc, seat)?;
         if !stepped {
-            return Ok(false);
+            return Ok(Came::Idle);
         }
         match self.served.journal().get(place) {
             Some(event) => {
                 self.seats.note(seat, &event.what, place);
-                Ok(true)
+                Ok(came_to(&event.what, seat))
             }
             None => unreachable!(),
         }
     }
 
-    /// A receive at the lowest free seat, if a seat is free and a call is there; says whether it was taken.
-    fn try_receive(&mut self, alloc: Global) -> Result<bool, NoMemory>
-        ensures { TakesTurn self.old self.new }
+    /// A receive at the lowest free seat, if a seat is free and a call is there.
+    fn receive(&mut self, alloc: Global) -> Result<Came, NoMemory>
+        ensures turn { TakesTurn self.old self.new }
+        ensures errand { (errand : ErrandValue) → errand.worker ≡ None → StepsFor errand self.old.history.events self.new.history.events }
+        ensures received { IfOk result (λ came. IsReceived came self.old.history.events self.new.history.events) }
     {
         match self.seats.lowest_free() {
             Some(seat) => self.step_seat(alloc, seat),
-            None => Ok(false),
+            None => Ok(Came::Idle),
         }
     }
 
-    /// A receive, if there is something to receive.
-    fn receive(&mut self, alloc: Global) -> Result<Came, NoMemory>
-        ensures { TakesTurn self.old self.new }
+    /// The point to which the session at a seat came by a step, if it came to one, or else what the step came to.
+    fn reached(&mut self, seat: u8, came: Came) -> Came
+        ensures same { self.new ≡ self.old }
+        ensures received { (K H : List Event) → IsReceived came K H → IsReceived result K H }
     {
-        if self.try_receive(alloc)? {
-            Ok(Came::Stepped)
-        } else {
-            Ok(Came::Idle)
+        match (came, self.served.point(seat), self.seats.lane_at(seat)) {
+            (Came::Stepped, Some((point, id)), Some(lane)) => Came::Reached {
+                point,
+                server: lane,
+                id,
+                keeps: Work::lane(lane),
+            },
+            _ => came,
         }
     }
 
-    /// A step of the worker at a seat, if its session is its lane's next.
-    fn serve_seat(&mut self, alloc: Global, seat: u8) -> Result<bool, NoMemory>
-        ensures { TakesTurn self.old self.new }
+    /// A step in the session of a notification that was handed over, if it is its lane's next.
+    fn serve_handed(&mut self, alloc: Global, item: Handoff) -> Result<Came, NoMemory>
+        ensures turn { TakesTurn self.old self.new }
+        ensures errand { (errand : ErrandValue) → errand.handed ≡ Some item → StepsFor errand self.old.history.events self.new.history.events }
+        ensures received { IfOk result (λ came. IsReceived came self.old.history.events self.new.history.events) }
     {
-        if seat < SEATS && self.seats.is_next(seat) {
-            self.step_seat(alloc, seat)
-        } else {
-            Ok(false)
-        }
-    }
-
-    /// A step in a lane, at the seat that is its next.
-    fn serve_lane(&mut self, alloc: Global, seat: u8, lane: u8) -> Result<Came, NoMemory>
-        ensures { TakesTurn self.old self.new }
-    {
-        if self.serve_seat(alloc, seat)? {
-            return Ok(self.came(seat, lane));
-        }
-        self.waiting = self.waiting.with(Work::lane(lane));
-        Ok(Came::Idle)
-    }
-
-    /// A seat that is the next of a lane among this work, and may have a step to take; and its lane.
-    fn seat_for(&self, work: Work) -> Option<(u8, u8)> {
-        let work = work.without(self.waiting);
-        for seat in 0..SEATS {
-            if let Some(lane) = self.seats.lane_at(seat)
-                && work.has(Work::lane(lane))
-                && self.seats.is_next(seat)
-            {
-                return Some((seat, lane));
-            }
-        }
-        None
-    }
-
-    /// A step of what there is of this work: in a lane, a receive, or a task's.
-    fn take_step(&mut self, alloc: Global, work: Work) -> Result<Came, NoMemory>
-        ensures { TakesTurn self.old self.new }
-    {
-        if let Some((seat, lane)) = self.seat_for(work) {
-            return self.serve_lane(alloc, seat, lane);
-        }
-        if work.has(Work::CALLS) && self.left().has(Work::CALLS) {
-            self.receive(alloc)
-        } else if work.has(Work::TASKS) {
-            self.step_task(alloc)
+        let Handoff { id, seat } = item;
+        if seat < SEATS && self.seats.holds(seat, id) && self.seats.is_next(seat) {
+            let came = self.step_seat(alloc, seat)?;
+            Ok(self.reached(seat, came))
         } else {
             Ok(Came::Idle)
         }
@@ -189,7 +161,9 @@ impl LaneServed {
 
     /// A step of a task that is worth a try.
     fn step_task(&mut self, alloc: Global) -> Result<Came, NoMemory>
-        ensures { TakesTurn self.old self.new }
+        ensures turn { TakesTurn self.old self.new }
+        ensures errand { (errand : ErrandValue) → StepsFor errand self.old.history.events self.new.history.events }
+        ensures received { IfOk result (λ came. (K H : List Event) → IsReceived came K H) }
     {
         if self.served.step_task(alloc)? {
             Ok(Came::Stepped)
@@ -198,41 +172,48 @@ impl LaneServed {
         }
     }
 
-    /// The work that is left: a call can be received while a seat is free, and a lane has some where a session goes on that doesn't wait.
-    fn left(&self) -> Work {
-        let mut left = self.served.left();
-        if self.seats.lowest_free().is_none() {
-            left = left.without(Work::CALLS);
-        }
-        for seat in 0..SEATS {
-            if let Some(lane) = self.seats.lane_at(seat) {
-                left = left.with(Work::lane(lane));
-            }
-        }
-        left.without(self.waiting)
-    }
-
-    /// Reads the history's new events. Where a request for a descriptor may have come to something by them, no lane waits.
-    fn catch_up(&mut self) -> Result<(), NoMemory>
-        ensures { self.new ≡ self.old }
+    /// A step for an errand: at the seat that was handed over, or else a receive, or a task's.
+    fn take_step(&mut self, alloc: Global, errand: Errand) -> Result<Came, NoMemory>
+        ensures turn { TakesTurn self.old self.new }
+        ensures errand { StepsFor errand self.old.history.events self.new.history.events }
+        ensures received { IfOk result (λ came. IsReceived came self.old.history.events self.new.history.events) }
     {
-        if self.served.catch_up()? {
-            self.waiting = Work::NONE;
+        if let Some(item) = errand.handed {
+            return self.serve_handed(alloc, item);
         }
-        Ok(())
+        let may_receive = errand.work.has(Work::CALLS) && errand.worker.is_none();
+        if may_receive && self.left().has(Work::CALLS) {
+            self.receive(alloc)
+        } else if errand.work.has(Work::TASKS) {
+            self.step_task(alloc)
+        } else {
+            Ok(Came::Idle)
+        }
     }
 
-    /// A step of this work, and what there is to do after it.
-    fn try_serve(&mut self, alloc: Global, work: Work) -> Result<Turned, NoMemory>
-        ensures { TakesTurn self.old self.new }
+    /// The work that is left beside that of lanes: a call can be received while a seat is free.
+    fn left(&self) -> Work {
+        let left = self.served.left();
+        if self.seats.lowest_free().is_none() {
+            left.without(Work::CALLS)
+        } else {
+            left
+        }
+    }
+
+    /// A step for an errand, and what there is to do after it.
+    fn try_serve(&mut self, alloc: Global, errand: Errand) -> Result<Turned, NoMemory>
+        ensures turn { TakesTurn self.old self.new }
+        ensures errand { StepsFor errand self.old.history.events self.new.history.events }
+        ensures received { IfOk result (λ turned. IsReceived turned.came self.old.history.events self.new.history.events) }
     {
         // The script's start makes the first task, before any turn.
-        self.catch_up()?;
-        let came = self.take_step(alloc, work)?;
-        self.catch_up()?;
+        let _ = self.served.catch_up()?;
+        let came = self.take_step(alloc, errand)?;
+        let settled = self.served.catch_up()?;
         Ok(Turned {
             came,
-            settled: false,
+            settled,
             in_hand: false,
             left: self.left(),
             is_over: self.served.is_over(),
@@ -244,8 +225,8 @@ impl Crewed for LaneServed {
     ghost ends = { Ends };
 
     /// Its threads serve as whichever worker sits at a seat, and none as one of its own.
-    fn serve(&mut self, alloc: Global, _worker: Option<u8>, work: Work) -> Turned {
-        match self.try_serve(alloc, work) {
+    fn serve(&mut self, alloc: Global, errand: Errand) -> Turned {
+        match self.try_serve(alloc, errand) {
             Ok(turned) => turned,
             Err(NoMemory) => {
                 self.served.give_up();

@@ -78,7 +78,7 @@ receive_is _ h = absurd cc
 -- ---- Who sits where
 
 abbrev sitting : ℕ → Notif → Sitting
-sitting began n = record { lane = lane_of_call n.call.nr; since = began }
+sitting began n = record { lane = lane_of_call n.call.nr; since = began; id = n.id }
 
 -- a session that was begun goes on, or was let go
 module _ (e : Event) (K : List Event) (seat began : ℕ) (n : Notif) where
@@ -106,19 +106,19 @@ begun (e ∷ K) fits seat began n s = elim (newest_or_older e K began seat (Recv
   | inr new ↦ inr (subst (λ (x : Event × ℕ). Sits (x.0 ∷ K) seat (Some (sitting x.1 n))) (λ i. (sym new.1 i, sym new.0 i)) (takes n K seat))
 ]
 
--- the worker received this session's notification, and hasn't let go since
-record Goes (K : List Event) (seat : ℕ) (s : Sitting) : Type 0 where
+-- the worker received a notification of this lane there, and hasn't let go since
+record Goes (K : List Event) (seat began kind : ℕ) : Type 0 where
   n : Notif
-  receive : Steps K s.since seat (Recv (Ok n))
-  lane_is : lane_of_call n.call.nr ≡ s.lane
-  no_letgo : LetsGoBetween K seat s.since (length K) → ⊥
+  receive : Steps K began seat (Recv (Ok n))
+  lane_is : lane_of_call n.call.nr ≡ kind
+  no_letgo : LetsGoBetween K seat began (length K) → ⊥
 
 module _ (e : Event) (K : List Event) (seat : ℕ) where
   -- it goes on after each event but its let-go
-  goes_further : (s : Sitting) → Goes K seat s → (e ≡ ev (Worker seat) LetGo → ⊥) → Goes (e ∷ K) seat s
-  goes_further s g none = record {
+  goes_further : (began kind : ℕ) → Goes K seat began kind → (e ≡ ev (Worker seat) LetGo → ⊥) → Goes (e ∷ K) seat began kind
+  goes_further began kind g none = record {
     n = g.n;
-    receive = older e K s.since seat (Recv (Ok g.n)) g.receive;
+    receive = older e K began seat (Recv (Ok g.n)) g.receive;
     lane_is = g.lane_is;
     no_letgo = λ b. elim (newest_or_older e K b.0 seat LetGo b.3) [
       | inl old ↦ g.no_letgo (b.0, b.1, old.1, old.0)
@@ -126,7 +126,7 @@ module _ (e : Event) (K : List Event) (seat : ℕ) where
     ];
   }
 
-  begins : (n : Notif) → e ≡ ev (Worker seat) (Recv (Ok n)) → Goes (e ∷ K) seat (sitting (length K) n)
+  begins : (n : Notif) → e ≡ ev (Worker seat) (Recv (Ok n)) → Goes (e ∷ K) seat (length K) (lane_of_call n.call.nr)
   begins n is = record {
     n = n;
     receive = event_at-here e K ∙ ap (λ f. Some f) is;
@@ -134,37 +134,37 @@ module _ (e : Event) (K : List Event) (seat : ℕ) where
     no_letgo = λ b. let from = b.1 in let until = b.2 in omega arith;
   }
 
-abbrev sits_since : List Event → ℕ → Sitting
-sits_since K seat = record { lane = lane K seat; since = taken_at K seat }
+abbrev GoesOn : List Event → ℕ → Type 0
+GoesOn K seat = Goes K seat (taken_at K seat) (lane K seat)
 
-module _ (e : Event) (K : List Event) (seat : ℕ) (more : is_taken K seat ≡ true → Goes K seat (sits_since K seat)) (taken : is_taken (e ∷ K) seat ≡ true) where
-  goes_on_elsewhere : is_worker e.who seat ≡ false → Goes (e ∷ K) seat (sits_since (e ∷ K) seat)
+module _ (e : Event) (K : List Event) (seat : ℕ) (more : is_taken K seat ≡ true → GoesOn K seat) (taken : is_taken (e ∷ K) seat ≡ true) where
+  goes_on_elsewhere : is_worker e.who seat ≡ false → GoesOn (e ∷ K) seat
   goes_on_elsewhere other =
       let same = same_session e K seat other in
-      let goes = goes_further e K seat (sits_since K seat) (more (ap is_open_session (sym same) ∙ taken)) (λ is. both_ways (is_worker e.who seat) other (is_mine e.who seat (ap (λ (f : Event). f.who) is))) in
-      subst (λ s. Goes (e ∷ K) seat s) (λ i. record { lane = lane_of_notif (notif_of (sym same i)); since = sym (same_start e K seat other) i }) goes
+      let goes = goes_further e K seat (taken_at K seat) (lane K seat) (more (ap is_open_session (sym same) ∙ taken)) (λ is. both_ways (is_worker e.who seat) other (is_mine e.who seat (ap (λ (f : Event). f.who) is))) in
+      subst (λ (x : ℕ × ℕ). Goes (e ∷ K) seat x.0 x.1) (λ i. (sym (same_start e K seat other) i, lane_of_notif (notif_of (sym same i)))) goes
 
-goes_on_own : (K : List Event) (seat : ℕ) (what : What) (c : Change) → change_of what 0 ≡ c → (is_taken K seat ≡ true → Goes K seat (sits_since K seat)) → is_taken (ev (Worker seat) what ∷ K) seat ≡ true → Goes (ev (Worker seat) what ∷ K) seat (sits_since (ev (Worker seat) what ∷ K) seat)
+goes_on_own : (K : List Event) (seat : ℕ) (what : What) (c : Change) → change_of what 0 ≡ c → (is_taken K seat ≡ true → GoesOn K seat) → is_taken (ev (Worker seat) what ∷ K) seat ≡ true → GoesOn (ev (Worker seat) what ∷ K) seat
 goes_on_own K seat what (Takes s) q more taken =
     let told = takes_for what 0 s q in
     let goes = begins (ev (Worker seat) what) K seat told.0 (ap (λ w. ev (Worker seat) w) told.1) in
     let sits = subst (λ w. Sits (ev (Worker seat) w ∷ K) seat (Some (sitting (length K) told.0))) (sym told.1) (takes told.0 K seat) in
-    subst (λ s. Goes (ev (Worker seat) what ∷ K) seat s) (λ i. record { lane = sym sits.1 i; since = sym sits.2 i }) goes
+    subst (λ (x : ℕ × ℕ). Goes (ev (Worker seat) what ∷ K) seat x.0 x.1) (λ i. (sym sits.2 i, sym sits.1 i)) goes
 goes_on_own K seat what Leaves q more taken = absurd (both_ways _ (subst (λ w. is_taken (ev (Worker seat) w ∷ K) seat ≡ false) (sym (leaves_for what 0 q)) (leaves K seat)) taken)
 goes_on_own K seat what Stays q more taken =
     let kind = stays_for what 0 q in
     let opened = stays_open what K seat kind in
-    let goes = goes_further (ev (Worker seat) what) K seat (sits_since K seat) (more (sym opened.0 ∙ taken)) (λ is. both_ways (is_letgo what) kind.1 (ap (λ (f : Event). is_letgo f.what) is)) in
-    subst (λ s. Goes (ev (Worker seat) what ∷ K) seat s) (λ i. record { lane = lane_of_notif (sym opened.1 i); since = sym (stays_since what K seat kind) i }) goes
+    let goes = goes_further (ev (Worker seat) what) K seat (taken_at K seat) (lane K seat) (more (sym opened.0 ∙ taken)) (λ is. both_ways (is_letgo what) kind.1 (ap (λ (f : Event). is_letgo f.what) is)) in
+    subst (λ (x : ℕ × ℕ). Goes (ev (Worker seat) what ∷ K) seat x.0 x.1) (λ i. (sym (stays_since what K seat kind) i, lane_of_notif (sym opened.1 i))) goes
 
 -- so does the session of a seat that is taken
-goes : (K : List Event) (seat : ℕ) → is_taken K seat ≡ true → Goes K seat (sits_since K seat)
+goes : (K : List Event) (seat : ℕ) → is_taken K seat ≡ true → GoesOn K seat
 unfolding session
 goes [] seat taken = cc
 goes (e ∷ K) seat taken = elim (cases_Bool (is_worker e.who seat)) [
   | inl mine ↦
       let is = worker_is e.who seat mine in
-      subst (λ (a : Actor). Goes (ev a e.what ∷ K) seat (sits_since (ev a e.what ∷ K) seat)) (sym is)
+      subst (λ (a : Actor). GoesOn (ev a e.what ∷ K) seat) (sym is)
       (goes_on_own K seat e.what (change_of e.what 0) refl (goes K seat) (subst (λ (a : Actor). is_taken (ev a e.what ∷ K) seat ≡ true) is taken))
   | inr other ↦ goes_on_elsewhere e K seat (goes K seat) taken other
 ]

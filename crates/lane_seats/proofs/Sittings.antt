@@ -1,9 +1,10 @@
 -- What a table of seats finds in each history that it stands for, and what one more event changes of it.
 -- By cases on a seat's entry, and on what the event makes of its worker's seat: no other seat changes.
-use Rattle.std.proofs.Common.{◌≡◌, ◌≢◌, ℕ, ◌<◌, ◌≤◌, ◌==◌, ◌⊎◌, inl, inr, nat_lt, true, false, List, [], ◌∷◌, length, set, get_or, get_or-set_other, get_or-set_same, Option, Some, None, Ok, refl, sym, ap, ◌∙◌, subst, arith, eq-eqb, eqb}
-use Rattle.std.proofs.lemmas.Bool.{and_parts, cases_lt, eqb-true, ltb-true, ne_eqb}
+use Rattle.std.proofs.Common.{◌≡◌, ◌≢◌, ℕ, ◌<◌, ◌≤◌, ◌==◌, ◌⊎◌, inl, inr, nat_lt, Bool, true, false, List, [], ◌∷◌, length, set, get_or, get_or-set_other, get_or-set_same, Option, Some, None, Ok, refl, sym, ap, ◌∙◌, subst, arith, eq-eqb, eqb}
+use Rattle.std.proofs.lemmas.Bool.{and_parts, cases_lt, eqb-true, ltb-false, ltb-true, ne_eqb}
 use Rattle.std.proofs.lemmas.Bool.Decides.{eqb_tells}
 use Rattle.std.proofs.lemmas.List.{get_or_past, length-set}
+use Rattle.std.specs.Option.{option_map}
 use Rattle.hist_model.specs.Kinds.{is_letgo, starts}
 use Rattle.hist_model.specs.Legal.{is_open_session}
 use Rattle.hist_model.specs.Look.{ev, is_worker}
@@ -13,7 +14,7 @@ use Rattle.hist_model.specs.declared.event.Event.{Event}
 use Rattle.hist_model.specs.declared.event.What.{What}
 use Rattle.hist_model.specs.declared.event.What.TheVariants.{LetGo, Recv}
 use Rattle.lane_seats.specs.Lanes.{IsNext, is_taken, lane, lane_of_call, lane_of_notif, taken_at}
-use Rattle.lane_seats.specs.Sittings.{FindsFree, FindsNext, Sits, StandsFor, change_of, comes_before}
+use Rattle.lane_seats.specs.Sittings.{FindsFree, FindsHeld, FindsNext, Sits, StandsFor, change_of, comes_before}
 use Rattle.lane_seats.specs.declared.seats.Change.TheVariants.{Leaves, Stays, Takes}
 use Rattle.lane_seats.specs.declared.seats.Sitting.{Sitting}
 use Rattle.sys_abi.specs.declared.wire.Notif.{Notif}
@@ -43,7 +44,9 @@ module _ (K : List Event) (seat other : ℕ) (own : Sitting) (mine : Sits K seat
   not_before (Some x) s b taken same =
       let lanes : x.lane ≡ own.lane = cc (s.1, same, mine.1) in
       let places : (taken_at K other ≡ x.since) × (taken_at K seat ≡ own.since) = (s.2, mine.2) in
-      grind arith
+      let later : nat_lt x.since own.since ≡ false = rw (eq-eqb x.lane own.lane lanes) at b in
+      let late : own.since ≤ x.since = ltb-false x.since own.since later in
+      omega arith
 
   -- and one that does is of the same lane, and began earlier
   is_before : (o : Option Sitting) → Sits K other o → comes_before o own ≡ true → IsNext K seat → ⊥
@@ -68,6 +71,18 @@ finds_next seats seat own is others K st =
 pub finds_earlier : (seats : List (Option Sitting)) (seat k : ℕ) (own : Sitting) → get_or seats seat None ≡ Some own → comes_before (get_or seats k None) own ≡ true → FindsNext seats seat false
 finds_earlier seats seat k own is before K st taken next = is_before K seat k own (subst (Sits K seat) is (st.each seat)) (get_or seats k None) (st.each k) before next
 
+pub finds_held : (seats : List (Option Sitting)) (seat : ℕ) (own : Sitting) (id : ℕ) (same : Bool) → get_or seats seat None ≡ Some own → same ≡ (own.id == id) → FindsHeld seats seat id same
+finds_held seats seat own id true is e = λ K st.
+    let mine : Sits K seat (Some own) = subst (Sits K seat) is (st.each seat) in
+    (mine.0, mine.3 ∙ ap Some (eqb-true own.id id (sym e)))
+finds_held seats seat own id false is e = λ K st taken held.
+    let mine : Sits K seat (Some own) = subst (Sits K seat) is (st.each seat) in
+    let ids : own.id ≡ id = cc (mine.3, held) in
+    absurd (cc (e, eq-eqb own.id id ids))
+
+pub finds_nobody : (seats : List (Option Sitting)) (seat id : ℕ) → get_or seats seat None ≡ None → FindsHeld seats seat id false
+finds_nobody seats seat id none K st taken held = absurd (cc (free_seat K seat (get_or seats seat None) none (st.each seat), taken))
+
 -- ---- What one more event changes
 
 -- seats are as they were where no worker there took a step
@@ -83,7 +98,7 @@ module _ (e : Event) (K : List Event) (seat : ℕ) (other : is_worker e.who seat
 -- an entry says as much of two histories in which the seat's session is the same
 pub sits_still : (K H : List Event) (seat : ℕ) (o : Option Sitting) → session H seat ≡ session K seat → taken_at H seat ≡ taken_at K seat → Sits K seat o → Sits H seat o
 sits_still K H seat None s t sits = ap is_open_session s ∙ sits
-sits_still K H seat (Some x) s t sits = (ap is_open_session s ∙ sits.0, ap (λ own. lane_of_notif (notif_of own)) s ∙ sits.1, t ∙ sits.2)
+sits_still K H seat (Some x) s t sits = (ap is_open_session s ∙ sits.0, ap (λ own. lane_of_notif (notif_of own)) s ∙ sits.1, t ∙ sits.2, ap (λ own. option_map (λ (n : Notif). n.id) (notif_of own)) s ∙ sits.3)
 
 -- a step of a task, or of the listener, changes no seat
 pub stands_still : (e : Event) (K : List Event) (seats : List (Option Sitting)) → ((seat : ℕ) → is_worker e.who seat ≡ false) → StandsFor K seats → StandsFor (e ∷ K) seats
@@ -105,8 +120,8 @@ unfolding taken_at
 begun_at n K seat = let own = mine (Recv (Ok n)) K seat in rw own refl
 
 -- a receive of a notification takes the seat
-pub takes : (n : Notif) (K : List Event) (seat : ℕ) → Sits (ev (Worker seat) (Recv (Ok n)) ∷ K) seat (Some (record { lane = lane_of_call n.call.nr; since = length K }))
-takes n K seat = let own = began n K seat in (ap is_open_session own, ap (λ s. lane_of_notif (notif_of s)) own, begun_at n K seat)
+pub takes : (n : Notif) (K : List Event) (seat : ℕ) → Sits (ev (Worker seat) (Recv (Ok n)) ∷ K) seat (Some (record { lane = lane_of_call n.call.nr; since = length K; id = n.id }))
+takes n K seat = let own = began n K seat in (ap is_open_session own, ap (λ s. lane_of_notif (notif_of s)) own, begun_at n K seat, ap (λ s. option_map (λ (m : Notif). m.id) (notif_of s)) own)
 
 joined_to : (K : List Event) (seat : ℕ) → session (ev (Worker seat) LetGo ∷ K) seat ≡ joined LetGo (session K seat)
 unfolding session
@@ -136,7 +151,7 @@ module _ (what : What) (K : List Event) (seat : ℕ) (kind : (starts what ≡ fa
 
   pub stays : (o : Option Sitting) → Sits K seat o → Sits (ev (Worker seat) what ∷ K) seat o
   stays None s = stays_open.0 ∙ s
-  stays (Some x) s = (stays_open.0 ∙ s.0, ap lane_of_notif stays_open.1 ∙ s.1, stays_since ∙ s.2)
+  stays (Some x) s = (stays_open.0 ∙ s.0, ap lane_of_notif stays_open.1 ∙ s.1, stays_since ∙ s.2, ap (option_map (λ (n : Notif). n.id)) stays_open.1 ∙ s.3)
 
 -- what each change tells of its step
 pub stays_for : (what : What) (place : ℕ) → change_of what place ≡ Stays → (starts what ≡ false) × (is_letgo what ≡ false) × (fetched_by what ≡ None)
@@ -149,7 +164,7 @@ leaves_for (Recv (Ok n)) place e = absurd cc
 leaves_for LetGo place e = refl
 leaves_for _ place e = absurd cc
 
-pub takes_for : (what : What) (place : ℕ) (s : Sitting) → change_of what place ≡ Takes s → (n : Notif) × (what ≡ Recv (Ok n)) × (s ≡ record { lane = lane_of_call n.call.nr; since = place })
+pub takes_for : (what : What) (place : ℕ) (s : Sitting) → change_of what place ≡ Takes s → (n : Notif) × (what ≡ Recv (Ok n)) × (s ≡ record { lane = lane_of_call n.call.nr; since = place; id = n.id })
 takes_for (Recv (Ok n)) place s e = (n, refl, cc)
 takes_for LetGo place s e = absurd cc
 takes_for _ place s e = absurd cc
@@ -174,7 +189,7 @@ module _ (what : What) (K : List Event) (seats : List (Option Sitting)) (seat : 
   pub noted_takes : (place : ℕ) (s : Sitting) → length K ≡ place → change_of what place ≡ Takes s → StandsFor (ev (Worker seat) what ∷ K) (set seats seat (Some s))
   noted_takes place s at e =
       let told = takes_for what place s e in
-      let is : s ≡ record { lane = lane_of_call told.0.call.nr; since = length K } = told.2 ∙ ap (λ p. record { lane = lane_of_call told.0.call.nr; since = p }) (sym at) in
+      let is : s ≡ record { lane = lane_of_call told.0.call.nr; since = length K; id = told.0.id } = told.2 ∙ ap (λ p. record { lane = lane_of_call told.0.call.nr; since = p; id = told.0.id }) (sym at) in
       stands_with (Some s) (subst (λ (y : What × Sitting). Sits (ev (Worker seat) y.0 ∷ K) seat (Some y.1)) (λ i. (sym told.1 i, sym is i)) (takes told.0 K seat))
 
   pub noted_leaves : (place : ℕ) → change_of what place ≡ Leaves → StandsFor (ev (Worker seat) what ∷ K) (set seats seat None)

@@ -1,6 +1,6 @@
 -- The small histories.
 -- By computing who sits where after each event.
-use Rattle.std.proofs.Common.{◌<◌, [], ◌∷◌, true, false, refl, sym, arith, true≢false, lit<}
+use Rattle.std.proofs.Common.{[], ◌∷◌, refl, sym, arith, true≢false, lit<}
 use Rattle.hist_model.specs.Sessions.{session}
 use Rattle.lane_seats.specs.Examples.{FirstSeat, InOrder, OtherSeat, Overlap, SideBySide, first_served, receives}
 use Rattle.lane_seats.specs.Lanes.{IsLowestFree, IsNext, taken_at}

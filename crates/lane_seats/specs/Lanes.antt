@@ -1,6 +1,6 @@
 -- Laned histories: of each kind of call the sessions are served one after another, and notifications are received at the lowest free seat.
-use Rattle.std.specs.Prelude.{◌≡◌, ℕ, ◌<◌, ◌≤◌, Bool, true, false, ◌&&◌, ◌||◌, ◌==◌, if◌then◌else◌, List, [], ◌∷◌, length, Option, Some}
-use Rattle.std.specs.Prelude.{None, ℤ, pos, negsuc}
+use Rattle.std.specs.Prelude.{◌≡◌, ℕ, ◌<◌, ◌≤◌, Bool, true, false, ◌&&◌, if◌then◌else◌, List, [], ◌∷◌, length, Option, Some}
+use Rattle.std.specs.Prelude.{None, ℤ}
 use Rattle.hist_model.specs.Kinds.{starts}
 use Rattle.hist_model.specs.Legal.{is_open_session}
 use Rattle.hist_model.specs.Look.{is_worker}
@@ -8,23 +8,12 @@ use Rattle.hist_model.specs.Sessions.{notif_of, session}
 use Rattle.hist_model.specs.declared.event.Actor.{Actor}
 use Rattle.hist_model.specs.declared.event.Actor.TheVariants.{Worker}
 use Rattle.hist_model.specs.declared.event.Event.{Event}
-use Rattle.sys_abi.specs.Calls.{nr_mknod, nr_mknodat, nr_mount, nr_openat, nr_setxattr, nr_sysinfo}
+use Rattle.call_table.specs.Table.{lane_by_row, row_of}
 use Rattle.sys_abi.specs.declared.wire.Notif.{Notif}
 
--- the lane of a call's number that isn't negative: 0 mknod and mknodat, 1 mount, 2 setxattr, 3 sysinfo, 4 openat, 5 every other
-abbrev pub lane_numbered : ℕ → ℕ
-lane_numbered nr =
-    if (nr == nr_mknod) || (nr == nr_mknodat) then 0
-    else if nr == nr_mount then 1
-    else if nr == nr_setxattr then 2
-    else if nr == nr_sysinfo then 3
-    else if nr == nr_openat then 4
-    else 5
-
--- the lane of a call's number
+-- the lane of a call's number, as its row has it
 abbrev pub lane_of_call : ℤ → ℕ
-lane_of_call (pos nr) = lane_numbered nr
-lane_of_call (negsuc nr) = 5
+lane_of_call nr = lane_by_row (row_of nr)
 
 abbrev pub lane_of_notif : Option Notif → ℕ
 lane_of_notif None = 5

@@ -1,5 +1,7 @@
 -- What a table of seats says of a history.
 use Rattle.std.specs.Prelude.{◌≡◌, ℕ, ◌≤◌, ◌==◌, ◌&&◌, nat_lt, Bool, true, false, List, get_or, length, Option, Some, None, Ok}
+use Rattle.std.specs.Option.{option_map}
+use Rattle.hist_model.specs.Sessions.{notif_of, session}
 use Rattle.hist_model.specs.declared.event.Event.{Event}
 use Rattle.hist_model.specs.declared.event.What.{What}
 use Rattle.hist_model.specs.declared.event.What.TheVariants.{LetGo, Recv}
@@ -7,11 +9,16 @@ use Rattle.lane_seats.specs.Lanes.{IsLowestFree, IsNext, is_taken, lane, lane_of
 use Rattle.lane_seats.specs.declared.seats.Change.{Change}
 use Rattle.lane_seats.specs.declared.seats.Change.TheVariants.{Leaves, Stays, Takes}
 use Rattle.lane_seats.specs.declared.seats.Sitting.{Sitting}
+use Rattle.sys_abi.specs.declared.wire.Notif.{Notif}
 
--- the seat is free, or its session goes on, began there and is of this lane
+-- the id of the notification that the worker received last
+abbrev pub id_at : List Event → ℕ → Option ℕ
+id_at K seat = option_map (λ (n : Notif). n.id) (notif_of (session K seat))
+
+-- the seat is free, or its session goes on, is of this lane, began there and is of the notification with this id
 abbrev pub Sits : List Event → ℕ → Option Sitting → Type 0
 Sits K seat None = is_taken K seat ≡ false
-Sits K seat (Some s) = (is_taken K seat ≡ true) × (lane K seat ≡ s.lane) × (taken_at K seat ≡ s.since)
+Sits K seat (Some s) = (is_taken K seat ≡ true) × (lane K seat ≡ s.lane) × (taken_at K seat ≡ s.since) × (id_at K seat ≡ Some s.id)
 
 -- there are seats 0 to 15, and each entry says how its seat is; no other is taken
 pub record StandsFor (K : List Event) (seats : List (Option Sitting)) : Type 0 where
@@ -25,7 +32,7 @@ comes_before (Some s) own = (s.lane == own.lane) && nat_lt s.since own.since
 
 -- what a step of a worker, the event at a place, makes of its seat
 abbrev pub change_of : What → ℕ → Change
-change_of (Recv (Ok n)) place = Takes (record { lane = lane_of_call n.call.nr; since = place })
+change_of (Recv (Ok n)) place = Takes (record { lane = lane_of_call n.call.nr; since = place; id = n.id })
 change_of LetGo place = Leaves
 change_of _ place = Stays
 
@@ -38,3 +45,8 @@ FindsFree seats None = (K : List Event) → StandsFor K seats → (seat : ℕ) �
 abbrev pub FindsNext : List (Option Sitting) → ℕ → Bool → Type 0
 FindsNext seats seat true = (K : List Event) → StandsFor K seats → (is_taken K seat ≡ true) × IsNext K seat
 FindsNext seats seat false = (K : List Event) → StandsFor K seats → is_taken K seat ≡ true → IsNext K seat → ⊥
+
+-- where it stands for a history, the notification with this id is in hand at the seat, or isn't
+abbrev pub FindsHeld : List (Option Sitting) → ℕ → ℕ → Bool → Type 0
+FindsHeld seats seat id true = (K : List Event) → StandsFor K seats → (is_taken K seat ≡ true) × (id_at K seat ≡ Some id)
+FindsHeld seats seat id false = (K : List Event) → StandsFor K seats → is_taken K seat ≡ true → id_at K seat ≡ Some id → ⊥

@@ -4,33 +4,18 @@ ghost use Rattle.std.specs.Prelude.{◌≡◌, ℕ, ◌<◌, ◌≤◌, ◌∷�
 ghost use Rattle.hist_model.specs.Look.{ev};
 ghost use Rattle.hist_model.specs.declared.event.Actor.TheVariants.{Worker};
 ghost use Rattle.hist_model.specs.declared.event.Event.{Event as AnyEvent};
-ghost use Rattle.lane_seats.specs.Lanes.{is_taken, lane_of_call};
+ghost use Rattle.lane_seats.specs.Lanes.{is_taken};
 ghost use Rattle.lane_seats.specs.Sittings.{change_of, comes_before};
 
+use call_table::rows::lane_of;
 use hist_model::event::What;
 use std::marker::Model;
-use sys_abi::calls;
 
 /// The number of seats, which are worker numbers.
 pub const SEATS: u8 = 16;
 
 /// The number of lanes, which are kinds of calls.
 pub const LANES: u8 = 6;
-
-/// The lane of a call's number: 0 mknod(2) and mknodat(2), 1 mount(2), 2 setxattr(2), 3 sysinfo(2), 4 openat(2), 5 every other.
-pub fn lane_of(nr: i32) -> u8
-    ensures lane { result ≡ lane_of_call nr }
-    ensures range { result < 6 }
-{
-    match nr {
-        calls::MKNOD | calls::MKNODAT => 0,
-        calls::MOUNT => 1,
-        calls::SETXATTR => 2,
-        calls::SYSINFO => 3,
-        calls::OPENAT => 4,
-        _ => 5,
-    }
-}
 
 /// A session that goes on.
 #[derive(Clone, Copy, PartialEq, Eq, Debug)]
@@ -39,6 +24,8 @@ pub struct Sitting {
     pub lane: u8,
     /// The place of its receive in the history.
     pub since: usize,
+    /// The id of its notification.
+    pub id: u64,
 }
 
 /// What a step of a worker makes of its seat.
@@ -67,6 +54,7 @@ fn change_by(step: &What, place: usize) -> Change
         What::Recv { answer: Ok(notif) } => Change::Takes(Sitting {
             lane: lane_of(notif.call.nr),
             since: place,
+            id: notif.id,
         }),
         What::LetGo => Change::Leaves,
         _ => Change::Stays,
@@ -89,7 +77,7 @@ impl Model for Seats {
 }
 
 impl Seats {
-    ghost use Rattle.lane_seats.specs.Sittings.{FindsFree, FindsNext, StandsFor};
+    ghost use Rattle.lane_seats.specs.Sittings.{FindsFree, FindsHeld, FindsNext, StandsFor};
 
     /// All seats are free.
     pub fn new() -> Seats
@@ -117,6 +105,17 @@ impl Seats {
         match self.seats.as_slice().get(usize::from(seat)) {
             Some(Some(sitting)) => Some(sitting.lane),
             _ => None,
+        }
+    }
+
+    /// Whether the notification with this id is in hand at this seat.
+    pub fn holds(&self, seat: u8, id: u64) -> bool
+        requires { seat ≤ 15 }
+        ensures { FindsHeld self.now seat id result }
+    {
+        match &self.seats[seat as usize] {
+            Some(sitting) => sitting.id == id,
+            None => false,
         }
     }
 

@@ -1,12 +1,15 @@
 //! The steps of the state behind the lock, one by one, and how the threads of a crew serve it.
 
-ghost use Rattle.std.specs.Prelude.{◌≡◌, IfOk, OnErr, Some, true};
+ghost use Rattle.std.specs.Prelude.{◌≡◌, IfOk, List, OnErr, Some, true};
 ghost use Rattle.crew.specs.Duties.{MayServe};
+ghost use Rattle.crew.specs.Errands.{IsReceived, StepsFor};
+ghost use Rattle.crew.specs.declared.crewed.Errand.{Errand as ErrandValue};
 ghost use Rattle.hist_model.specs.declared.event.Actor.TheVariants.{Worker};
+ghost use Rattle.hist_model.specs.declared.event.Event.{Event};
 ghost use Rattle.worker_gate.specs.Hands.{Ends};
 
 use crate::served::Served;
-use crew::{Came, Crewed, Point, Turned, Work};
+use crew::{Came, Crewed, Errand, Point, Turned, Work};
 use std::alloc::Global;
 use sys_abi::memory::NoMemory;
 
@@ -72,7 +75,8 @@ impl Served {
 
     /// What a worker's step came to.
     fn came(&mut self, number: u8) -> Came
-        ensures { self.new ≡ self.old }
+        ensures same { self.new ≡ self.old }
+        ensures received { (K H : List Event) → IsReceived result K H }
     {
         match self.point(number) {
             Some((point, id)) => Came::Reached {
@@ -87,7 +91,9 @@ impl Served {
 
     /// A step of a task that is worth a try, if that is among this work.
     fn step_some_task(&mut self, alloc: Global, work: Work) -> Result<Came, NoMemory>
-        ensures { TakesTurn self.old self.new }
+        ensures turn { TakesTurn self.old self.new }
+        ensures errand { (errand : ErrandValue) → StepsFor errand self.old.history.events self.new.history.events }
+        ensures received { IfOk result (λ came. (K H : List Event) → IsReceived came K H) }
     {
         if !work.has(Work::TASKS) {
             return Ok(Came::Idle);
@@ -99,18 +105,20 @@ impl Served {
         }
     }
 
-    /// A step of a worker, if one is given, or else of a task.
-    fn take_step(&mut self, alloc: Global, worker: Option<u8>, work: Work) -> Result<Came, NoMemory>
-        requires may { MayServe self.old.setup.limit worker }
-        ensures { TakesTurn self.old self.new }
+    /// A step of the errand's worker, if it has one, or else of a task.
+    fn take_step(&mut self, alloc: Global, errand: Errand) -> Result<Came, NoMemory>
+        requires may { MayServe self.old.setup.limit errand.worker }
+        ensures turn { TakesTurn self.old self.new }
+        ensures errand { StepsFor errand self.old.history.events self.new.history.events }
+        ensures received { IfOk result (λ came. (K H : List Event) → IsReceived came K H) }
     {
-        let Some(number) = worker else {
-            return self.step_some_task(alloc, work);
+        let Some(number) = errand.worker else {
+            return self.step_some_task(alloc, errand.work);
         };
         if self.step_worker(alloc, number)? {
             return Ok(self.came(number));
         }
-        self.step_some_task(alloc, work)
+        self.step_some_task(alloc, errand.work)
     }
 
     /// Whether this worker, if one is given, has a notification in hand.
@@ -122,23 +130,20 @@ impl Served {
     }
 
     /// A step, and what there is to do after it.
-    fn try_serve(
-        &mut self,
-        alloc: Global,
-        worker: Option<u8>,
-        work: Work,
-    ) -> Result<Turned, NoMemory>
-        requires may { MayServe self.old.setup.limit worker }
-        ensures { TakesTurn self.old self.new }
+    fn try_serve(&mut self, alloc: Global, errand: Errand) -> Result<Turned, NoMemory>
+        requires may { MayServe self.old.setup.limit errand.worker }
+        ensures turn { TakesTurn self.old self.new }
+        ensures errand { StepsFor errand self.old.history.events self.new.history.events }
+        ensures received { IfOk result (λ turned. (K H : List Event) → IsReceived turned.came K H) }
     {
         // The script's start makes the first task, before any turn.
         let _ = self.catch_up()?;
-        let came = self.take_step(alloc, worker, work)?;
+        let came = self.take_step(alloc, errand)?;
         let settled = self.catch_up()?;
         Ok(Turned {
             came,
             settled,
-            in_hand: self.has_session(worker),
+            in_hand: self.has_session(errand.worker),
             left: self.left(),
             is_over: self.is_over(),
         })
@@ -148,8 +153,8 @@ impl Served {
 impl Crewed for Served {
     ghost ends = { Ends };
 
-    fn serve(&mut self, alloc: Global, worker: Option<u8>, work: Work) -> Turned {
-        match self.try_serve(alloc, worker, work) {
+    fn serve(&mut self, alloc: Global, errand: Errand) -> Turned {
+        match self.try_serve(alloc, errand) {
             Ok(turned) => turned,
             Err(NoMemory) => {
                 self.give_up();

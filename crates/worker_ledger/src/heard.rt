@@ -1,14 +1,17 @@
 //! An answer that a ledger keeps.
 
-ghost use Rattle.std.specs.Prelude.{◌≡◌, ◌++◌, IfOk, OnOk, codes, decimal};
-ghost use Rattle.hex.specs.Hex.{IsBytes};
+ghost use Rattle.std.specs.Prelude.{◌≡◌, IfOk, OnOk};
+ghost use Rattle.hex.specs.Hex.{IsBytes, encode_lower};
+ghost use Rattle.serde_json.specs.Data.{string};
+ghost use Rattle.serde_json.specs.View.{view};
 ghost use Rattle.broker_core.specs.Answers.{told};
 ghost use Rattle.worker_ledger.specs.Heard.{IsHeard, heard};
 ghost use Rattle.worker_ledger.specs.Notes.{is_received};
-ghost use Rattle.worker_ledger.specs.Ledgers.{IsAnswer, answer_text, hex_object, number_object};
+ghost use Rattle.worker_ledger.specs.Data.{answer_data, one_member};
+ghost use Rattle.worker_ledger.specs.Ledgers.{IsAnswer};
 
 use broker_core::deed::Got;
-use itoa::Buffer;
+use serde_json::{Map, Value, put};
 use std::alloc::Global;
 use sys_abi::errno::Errno;
 use sys_abi::memory::NoMemory;
@@ -29,31 +32,21 @@ pub enum Heard {
     Fault(Errno),
 }
 
-/// Adds an object with one member, bytes as digits of base 16.
-fn push_hex_object(
-    alloc: Global,
-    text: &mut Vec<u8>,
-    front: &[u8],
-    bytes: &[u8],
-) -> Result<(), NoMemory>
-    ensures text { OnOk result (text.new.items ≡ text.old.items ++ hex_object front.now bytes.now) }
+/// Bytes as digits of base 16.
+fn digits_of(alloc: Global, bytes: &[u8]) -> Result<Value, NoMemory>
+    ensures value { IfOk result (λ v. view v ≡ string (encode_lower bytes.now)) }
     ensures bytes { IsBytes bytes.now }
 {
-    text.extend_from_slice(front)?;
-    text.extend_from_slice(hex::encode(alloc, bytes)?.as_bytes())?;
-    text.extend_from_slice(b"\"}")?;
-    Ok(())
+    Ok(Value::String(hex::encode(alloc, bytes)?))
 }
 
-/// Adds an object with one member, a number.
-fn push_number_object(text: &mut Vec<u8>, front: &[u8], number: u64) -> Result<(), NoMemory>
-    ensures { OnOk result (text.new.items ≡ text.old.items ++ number_object front.now number) }
+/// An object with one member.
+fn one_member(alloc: Global, key: &str, value: Value) -> Result<Value, NoMemory>
+    ensures { IfOk result (λ v. view v ≡ one_member key.now (view value)) }
 {
-    let mut buffer = Buffer::new();
-    text.extend_from_slice(front)?;
-    text.extend_from_slice(buffer.format(number).as_bytes())?;
-    text.extend_from_slice(b"}")?;
-    Ok(())
+    let mut members = Map::new(alloc);
+    put(&mut members, alloc, key, value)?;
+    Ok(Value::Object(members))
 }
 
 impl Heard {
@@ -77,28 +70,23 @@ impl Heard {
         matches!(self, Heard::Notif(_))
     }
 
-    /// Adds its text.
-    pub(crate) fn push(&self, alloc: Global, text: &mut Vec<u8>) -> Result<(), NoMemory>
-        ensures text { OnOk result (text.new.items ≡ text.old.items ++ answer_text (heard self.now)) }
+    /// Its value of JSON.
+    pub(crate) fn value(&self, alloc: Global) -> Result<Value, NoMemory>
+        ensures value { IfOk result (λ v. view v ≡ answer_data (heard self.now)) }
         ensures answer { OnOk result (IsAnswer (heard self.now)) }
     {
         match self {
             Heard::Notif(notif) => {
-                push_hex_object(alloc, text, b"{\"notif\":\"", &notif.to_bytes())
+                let digits = digits_of(alloc, &notif.to_bytes())?;
+                one_member(alloc, "notif", digits)
             }
-            Heard::Done => {
-                text.extend_from_slice(b"\"ok\"")?;
-                Ok(())
-            }
+            Heard::Done => Ok(Value::try_from_str(alloc, "ok")?),
             Heard::Bytes(bytes) => {
-                push_hex_object(alloc, text, b"{\"bytes\":\"", bytes.as_slice())
+                let digits = digits_of(alloc, bytes.as_slice())?;
+                one_member(alloc, "bytes", digits)
             }
-            Heard::Number(number) => {
-                push_number_object(text, b"{\"number\":", u64::from(*number))
-            }
-            Heard::Fault(error) => {
-                push_number_object(text, b"{\"fault\":", u64::from(error.number()))
-            }
+            Heard::Number(number) => one_member(alloc, "number", Value::from(*number)),
+            Heard::Fault(error) => one_member(alloc, "fault", Value::from(error.number())),
         }
     }
 }

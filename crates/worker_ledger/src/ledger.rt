@@ -1,16 +1,17 @@
 //! The ledger of a worker: what it was told, kept outside of it.
 
-ghost use Rattle.std.specs.Prelude.{◌≡◌, ◌<◌, ◌^◌, ◌↔◌, ◌++◌, ◌∷◌, [], OnOk, OnErr, IfOk, IsTrue, codes, decimal};
-ghost use Rattle.std.specs.List.{flat_map};
+ghost use Rattle.std.specs.Prelude.{◌≡◌, ◌<◌, ◌^◌, ◌↔◌, ◌∷◌, [], OnOk, OnErr, IfOk, IsTrue};
+ghost use Rattle.serde_json.specs.View.{items_view, view};
 ghost use Rattle.broker_core.specs.Answers.{told};
+ghost use Rattle.worker_ledger.specs.Data.{answers_data, ledger_data};
 ghost use Rattle.worker_ledger.specs.Heard.{all_heard, heard as kept};
-ghost use Rattle.worker_ledger.specs.Ledgers.{AreAnswers, IsAnswer, answer_text, answers_text, ledger_text};
+ghost use Rattle.worker_ledger.specs.Ledgers.{AreAnswers, ledger_text};
 ghost use Rattle.worker_ledger.specs.Notes.{IsReadAs, IsUnchanged, Notes, next_count, noted, told_more};
 
 use crate::heard::{Heard, heard_of};
 use crate::reading::read_ledger;
 use broker_core::deed::Got;
-use itoa::Buffer;
+use serde_json::{Map, Value, put};
 use std::alloc::Global;
 use sys_abi::memory::NoMemory;
 
@@ -22,48 +23,18 @@ pub struct Ledger {
     pub(crate) own: Vec<Heard>,
 }
 
-/// Adds an answer behind a comma.
-fn push_one(alloc: Global, text: &mut Vec<u8>, heard: &Heard) -> Result<(), NoMemory>
-    ensures text { OnOk result (text.new.items ≡ text.old.items ++ (codes "," ++ answer_text (kept heard.now))) }
-    ensures answer { OnOk result (IsAnswer (kept heard.now)) }
-{
-    text.push(b',')?;
-    heard.push(alloc, text)
-}
-
-/// Adds answers, with a comma before each.
-fn push_more(alloc: Global, text: &mut Vec<u8>, more: &[Heard]) -> Result<(), NoMemory>
-    ensures text { OnOk result (text.new.items ≡ text.old.items ++ flat_map (λ a. codes "," ++ answer_text a) (all_heard more.now)) }
-    ensures answers { OnOk result (AreAnswers (all_heard more.now)) }
-{
-    let mut left = more;
-    while let Some((heard, rest)) = left.split_first() {
-        push_one(alloc, text, heard)?;
-        left = rest;
-    }
-    Ok(())
-}
-
-/// Adds answers, with commas between them.
-#[tactic(auto, using(crate::proofs::Texts::joined_answers))]
-fn push_answers(alloc: Global, text: &mut Vec<u8>, own: &[Heard]) -> Result<(), NoMemory>
-    ensures text { OnOk result (text.new.items ≡ text.old.items ++ answers_text (all_heard own.now)) }
+/// Answers as values of JSON.
+fn values_of(alloc: Global, own: &[Heard]) -> Result<Vec<Value>, NoMemory>
+    ensures values { IfOk result (λ v. items_view v.items ≡ answers_data (all_heard own.now)) }
     ensures answers { OnOk result (AreAnswers (all_heard own.now)) }
 {
-    if let Some((first, more)) = own.split_first() {
-        first.push(alloc, text)?;
-        push_more(alloc, text, more)?;
+    let mut values = Vec::with_capacity(alloc, own.len())?;
+    let mut left = own;
+    while let Some((heard, rest)) = left.split_first() {
+        values.push(heard.value(alloc)?)?;
+        left = rest;
     }
-    Ok(())
-}
-
-/// Adds a number.
-fn push_number(text: &mut Vec<u8>, number: u64) -> Result<(), NoMemory>
-    ensures { OnOk result (text.new.items ≡ text.old.items ++ decimal number) }
-{
-    let mut buffer = Buffer::new();
-    text.extend_from_slice(buffer.format(number).as_bytes())?;
-    Ok(())
+    Ok(values)
 }
 
 /// Whether these are the same bytes.
@@ -181,20 +152,26 @@ impl Ledger {
         Ok(())
     }
 
+    /// The ledger's value of JSON.
+    fn value(&self, alloc: Global) -> Result<Value, NoMemory>
+        ensures value { IfOk result (λ v. view v ≡ ledger_data self.now.no self.now.count (all_heard self.now.own.items)) }
+        ensures answers { OnOk result (AreAnswers (all_heard self.now.own.items)) }
+    {
+        let own = values_of(alloc, self.own.as_slice())?;
+        let mut members = Map::new(alloc);
+        put(&mut members, alloc, "count", Value::from(self.count))?;
+        put(&mut members, alloc, "own", Value::Array(own))?;
+        put(&mut members, alloc, "worker", Value::from(self.no))?;
+        Ok(Value::Object(members))
+    }
+
     /// The ledger's text: one line of JSON, without the byte that ends a line.
-    #[tactic(auto, using(crate::proofs::Texts::text_parts))]
     pub fn text(&self, alloc: Global) -> Result<Vec<u8>, NoMemory>
         ensures text { IfOk result (λ text. text.items ≡ ledger_text self.now.no self.now.count (all_heard self.now.own.items)) }
         ensures answers { OnOk result (AreAnswers (all_heard self.now.own.items)) }
     {
-        let mut text = Vec::from_slice(alloc, b"{\"count\":")?;
-        push_number(&mut text, self.count)?;
-        text.extend_from_slice(b",\"own\":[")?;
-        push_answers(alloc, &mut text, self.own.as_slice())?;
-        text.extend_from_slice(b"],\"worker\":")?;
-        push_number(&mut text, u64::from(self.no))?;
-        text.extend_from_slice(b"}")?;
-        Ok(text)
+        let value = self.value(alloc)?;
+        Ok(value.to_vec(alloc)?)
     }
 
     /// The ledger of a worker, where these bytes are its text.

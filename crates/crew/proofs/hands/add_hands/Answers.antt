@@ -18,8 +18,8 @@ loop-place-preserved g c =
       room = omega (arith, i.room);
       number = omega (arith, i.number, c.push_reserved.ensures.len);
       hands =
-          subst (All (λ (h : Hand). AreOf ls h.passes.items × All (Admits h.turn.worker) ls)) (sym c.push_reserved.ensures.items)
-          (All-push (λ (h : Hand). AreOf ls h.passes.items × All (Admits h.turn.worker) ls) c.loop-place.others.items _ i.hands
+          subst (All (λ (h : Hand). AreOf ls h.passes.items × All (Admits h.turn.errand.worker) ls)) (sym c.push_reserved.ensures.items)
+          (All-push (λ (h : Hand). AreOf ls h.passes.items × All (Admits h.turn.errand.worker) ls) c.loop-place.others.items _ i.hands
           (c.in_ok-hand.ensures.hand.0, subst (λ (worker : Option ℕ). All (Admits worker) ls) (sym c.in_ok-hand.ensures.hand.1) may));
     }
 

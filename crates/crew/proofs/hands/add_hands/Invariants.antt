@@ -9,5 +9,5 @@ invariant-loop-place g l = record {
   seen : map seen_of l.firsts.items ≡ map seen_of l.fn.firsts.items;
   room : l.count ≤ vec_capacity l.others;
   number : l.place ≡ length l.others.items;
-  hands : All (λ h. AreOf l.locks.items h.passes.items × All (Admits h.turn.worker) l.locks.items) l.others.items;
+  hands : All (λ h. AreOf l.locks.items h.passes.items × All (Admits h.turn.errand.worker) l.locks.items) l.others.items;
 }

@@ -8,13 +8,13 @@ use Rattle.crew.proofs.hands.work_all.Goals as goal
 pub work_beside-requires-clause-calling : goal.work_beside-requires-clause-calling
 work_beside-requires-clause-calling g c κs within = λ p is.
     let ls = c.args.locks.now.items in
-    let ready = subst (λ (h : Hand). AreOf ls h.passes.items × All (Admits h.turn.worker) ls) (sym is) c.requires.calling in
+    let ready = subst (λ (h : Hand). AreOf ls h.passes.items × All (Admits h.turn.errand.worker) ls) (sym is) c.requires.calling in
     (ready.0, ready.1, c.requires.count)
 
 pub work_beside-requires-clause-others : goal.work_beside-requires-clause-others
 work_beside-requires-clause-others g c κs within = λ i p lt is.
     let ls = c.args.locks.now.items in
-    let ready = each-is (λ (h : Hand). AreOf ls h.passes.items × All (Admits h.turn.worker) ls) c.args.others.now.items c.as_mut_slice.result.now c.requires.others c.as_mut_slice.ensures.value i p.now lt is in
+    let ready = each-is (λ (h : Hand). AreOf ls h.passes.items × All (Admits h.turn.errand.worker) ls) c.args.others.now.items c.as_mut_slice.result.now c.requires.others c.as_mut_slice.ensures.value i p.now lt is in
     (ready.0, ready.1, c.requires.count)
 
 pub returns-clause-others : goal.returns-clause-others

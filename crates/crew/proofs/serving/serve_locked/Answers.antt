@@ -14,3 +14,8 @@ returns-clause-seen g c =
     let before = map seen_of c.args.firsts.now.items in
     let gathered = map seen_of c.gather.new.firsts.items in
     each-trans (map seen_of c.see_ends.new.firsts.items) gathered before c.see_ends.ensures.seen (each-trans gathered (map seen_of c.all_hands.new.firsts.items) before c.gather.ensures.seen c.all_hands.ensures.seen)
+
+pub returns-in_err-close-clause-seen : goal.returns-in_err-close-clause-seen
+returns-in_err-close-clause-seen g c =
+    let before = map seen_of c.args.firsts.now.items in
+    each-trans (map seen_of c.gather.new.firsts.items) (map seen_of c.all_hands.new.firsts.items) before c.gather.ensures.seen c.all_hands.ensures.seen

@@ -10,7 +10,7 @@ turn-requires-clause-own g c =
 pub turn-requires-clause-asks : goal.turn-requires-clause-asks
 turn-requires-clause-asks g c = λ s found.
     let within : c.from-place.result < length c.args.locks.now.items = rw c.from-place.ensures c.requires.container in
-    may-at c.args.self.now.turn.worker c.args.locks.now.items c.from-place.result c.index.result.now c.index_mut.result.now (g.S.Journalled.setup s) c.requires.may within c.index.ensures
+    may-at c.args.self.now.turn.errand.worker c.args.locks.now.items c.from-place.result c.index.result.now c.index_mut.result.now (g.S.Journalled.setup s) c.requires.may within c.index.ensures
     (pass-at c.args.locks.now.items c.from-place.result c.index.result.now within c.index.ensures c.args.self.now.passes.items c.requires.own c.index_mut.result.now c.index_mut.ensures.value)
     found.0
 
