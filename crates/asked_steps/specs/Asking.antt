@@ -18,7 +18,6 @@ if_so b why = if b then Some why else None
 
 -- what a worker has to have open, or put, for what it asks
 abbrev pub refused : List Event → ℕ → Asked → Option Refusal
-refused K w (asks.OpenMem pid) = if_so (is_some (mem K w)) refusal.MemoryIsOpen
 refused K w (asks.Plant addr bytes) = if_so (not (is_some (mem K w))) refusal.NoMemoryIsOpen
 refused K w (asks.Addfd bytes) = if_so (is_some (request_of K w)) refusal.RequestIsPut
 refused K w asks.AddfdResult = if_so (not (is_some (request_of K w))) refusal.NoRequest

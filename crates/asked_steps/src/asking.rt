@@ -36,7 +36,6 @@ fn refused(kernel: &Kernel, worker: u8, asked: &Asked) -> Option<Refusal>
     ensures { result ≡ refused (past kernel.now) worker asked.now }
 {
     match asked {
-        Asked::OpenMem { .. } if kernel.holds_mem(worker) => Some(Refusal::MemoryIsOpen),
         Asked::Plant { .. } if !kernel.holds_mem(worker) => Some(Refusal::NoMemoryIsOpen),
         Asked::Addfd(_) if kernel.has_request(worker) => Some(Refusal::RequestIsPut),
         Asked::AddfdResult if !kernel.has_request(worker) => Some(Refusal::NoRequest),
@@ -122,11 +121,10 @@ fn take(kernel: &mut Kernel, worker: u8) -> Came
     taking(&taken)
 }
 
-/// A worker opens a memory, and has none open.
+/// A worker opens a memory.
 fn open_mem(kernel: &mut Kernel, worker: u8, pid: u32) -> Came
     requires kernel { IsKernel kernel.old }
     requires worker { worker ≤ 16 }
-    requires free { mem (past kernel.old) worker ≡ None }
     requires room { 0 < kernel.old.history.spare }
     ensures { Comes kernel.old worker (asks.OpenMem pid) result kernel.new }
 {

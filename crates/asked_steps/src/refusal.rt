@@ -3,8 +3,6 @@
 /// Why what a worker asks for isn't done, so that nothing happens.
 #[derive(Clone, Copy)]
 pub enum Refusal {
-    /// A worker asks for a second memory before it has let the first one go.
-    MemoryIsOpen,
     /// A worker asks to write where it has no memory open.
     NoMemoryIsOpen,
     /// A worker asks for a second descriptor before it has taken what came of the first one.

@@ -2,6 +2,7 @@ pub mod Buffers
 pub mod Counted
 pub mod Effects
 pub mod Frames
+pub mod CallStates
 pub mod MappedRanges
 pub mod NativeCalls
 pub mod NextSteps

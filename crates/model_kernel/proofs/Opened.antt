@@ -2,7 +2,7 @@
 -- By the counts of what workers have open, of which one changed.
 use Rattle.std.proofs.Common.{◌≡◌, inl, inr, ℕ, ◌+◌, ◌-◌, ◌^◌, ◌<◌, ◌≤◌, Bool, true, List, ◌∷◌, length, Option, Some, None, refl, sym, ap, ◌∙◌, subst, arith, ℤ, Ok, is_some, replicate, set, slice_get, ◌==◌, if◌then◌else◌}
 use Rattle.std.specs.List.{count_by}
-use Rattle.std.proofs.lemmas.Bool.{cases_lt, eq-eqb}
+use Rattle.std.proofs.lemmas.Bool.{cases_Bool, cases_lt, eq-eqb}
 use Rattle.std.proofs.lemmas.Bool.Decides.{nat_tests}
 use Rattle.std.proofs.lemmas.List.{get_or_past}
 use Rattle.std.proofs.lemmas.List.Sums.{count_by-le-length, sum_by-set}
@@ -34,6 +34,14 @@ added x y a b h = grind (arith, nat_tests)
 
 pub taken : (x y a b : ℕ) → x + (if a == b then 1 else 0) ≡ y → x ≡ (if b == a then y - 1 else y)
 taken x y a b h = grind (arith, nat_tests)
+
+-- and where one number is taken and another one added
+pub moved : (x y a b c : ℕ) → x + (if b == a then 1 else 0) ≡ y + (if c == a then 1 else 0) → x ≡ (if a == b then (if a == c then y + 1 else y) - 1 else (if a == c then y + 1 else y))
+moved x y a b c h = grind (arith, nat_tests)
+
+-- one more of another leaves no fewer
+still : (f : ℕ → ℕ) (o g : ℕ) → 0 < f g → 0 < one_more f o g
+still f o g l = elim (cases_Bool (g == o)) [ inl b ↦ rw b (omega arith) | inr b ↦ rw b l ]
 
 -- ---- how many have a group's memory open
 
@@ -84,6 +92,13 @@ module _ (rows : List WorkerRow) (w : ℕ) (row : WorkerRow) (l : w < length row
       let new : one (has_memory o row) ≡ 0 = ap (λ m. one (is_place m o)) none in
       taken (memories_in (set rows w row) o) (memories_in rows o) g o (omega (arith, memories-set o, old, new))
 
+  -- one more has one, and one less another
+  memories-moved : (f g : ℕ) → (row_of rows w).memory ≡ Some f → row.memory ≡ Some g → (o : ℕ) → memories_in (set rows w row) o ≡ one_less (one_more (memories_in rows) g) f o
+  memories-moved f g q p o =
+      let old : one (has_memory o (row_of rows w)) ≡ one (f == o) = ap (λ m. one (is_place m o)) q in
+      let new : one (has_memory o row) ≡ one (g == o) = ap (λ m. one (is_place m o)) p in
+      moved (memories_in (set rows w row) o) (memories_in rows o) o f g (omega (arith, memories-set o, old, new))
+
 -- the worker itself has it open
 pub memories-some : (rows : List WorkerRow) (w g : ℕ) → (row_of rows w).memory ≡ Some g → 0 < memories_in rows g
 memories-some rows w g q =
@@ -97,11 +112,6 @@ pub has-memory : (K : List Event) (m o : Option ℕ) → IsMemory K m o → is_s
 has-memory K m (Some o) i = ap is_some (sym i.1)
 has-memory K m None i = ap is_some (sym i)
 
--- a worker that has no memory open has none in its row
-pub no-memory : (K : List Event) (m o : Option ℕ) → IsMemory K m o → m ≡ None → o ≡ None
-no-memory K m (Some o) i q = let z : None ≡ Some i.0 = sym q ∙ i.1 in cc
-no-memory K m None i q = refl
-
 module _ (S : Script) (K : List Event) (living : ℕ → ℕ) (R : Resources) (T : StandsFor S K living R) where
   -- what was found in a worker's row is what it has open
   pub memory-of : (w : ℕ) (o : Option ℕ) → o ≡ (row_of R.workers w).memory → IsMemory K (mem K w) o
@@ -110,12 +120,18 @@ module _ (S : Script) (K : List Event) (living : ℕ → ℕ) (R : Resources) (T
   pub base-of : (w : ℕ) (n : Option NodeRef) → n ≡ (row_of R.workers w).base → (files S K).base w ≡ ordinal_of n
   base-of w n q = (T.workers.workers w).base_is ∙ ap ordinal_of (sym q)
 
-  -- a group whose memory is open has a row
-  pub memory-row : (w g : ℕ) → (row_of R.workers w).memory ≡ Some g → HasRow R.groups g
-  memory-row w g q = has_row (state S K living (memories_in R.workers)) R.groups T.groups g (made T.groups.no_handles)
+  -- a group whose memory is open was made, and has a row, however many have it open by now
+  memory-made : (w g : ℕ) → (row_of R.workers w).memory ≡ Some g → g < groups_made K
+  memory-made w g q = made T.groups.no_handles
     where
       made : ((o : ℕ) → groups_made K ≤ o → memories_in R.workers o ≡ 0) → g < groups_made K
       made none = elim (cases_lt g (groups_made K)) [ inl h ↦ h | inr h ↦ absurd (omega (arith, memories-some R.workers w g q, none g h)) ]
+
+  pub memory-row-by : (w g : ℕ) (handles : ℕ → ℕ) (G : Groups) → (row_of R.workers w).memory ≡ Some g → groups.StandsFor S K living handles G → HasRow G g
+  memory-row-by w g handles G q stands = has_row (state S K living handles) G stands g (memory-made w g q)
+
+  pub memory-row : (w g : ℕ) → (row_of R.workers w).memory ≡ Some g → HasRow R.groups g
+  memory-row w g q = memory-row-by w g (memories_in R.workers) R.groups q T.groups
 
   -- a group with a living task is live, since at most 17 workers have its memory open
   pub live : (o : ℕ) → 0 < living o → living o < 2 ^ 62 → IsLive R.groups o
@@ -136,16 +152,24 @@ module _ (S : Script) (K : List Event) (living : ℕ → ℕ) (R : Resources) (T
       (alike (state S (e ∷ K) living (memories_in R.workers)) living (memories_in new) R.groups (groups-kept S K living R T e refl) (λ o. refl) (λ o. rw is (memories-same R.workers w _ (there l) refl o)))
       on (rw is (rows-received S K R.workers w T.workers l n))
 
-  -- a worker opened the memory of a group
-  pub opened : (w pid o g : ℕ) (G : Groups) (new : List WorkerRow) → w ≤ 16 → mem K w ≡ None → opened_group K (holder K pid) ≡ Some g → group_of K o ≡ Some g
-      → (groups.StandsFor S (ev (Worker w) (OpenMem pid (Ok tt)) ∷ K) living (memories_in R.workers) R.groups → groups.StandsFor S (ev (Worker w) (OpenMem pid (Ok tt)) ∷ K) living (one_more (memories_in R.workers) o) G)
+  -- a worker opened the memory of a group, and closed the one that it had open before
+  pub opened : (w pid o g : ℕ) (former : Option ℕ) (G : Groups) (new : List WorkerRow) → w ≤ 16 → (row_of R.workers w).memory ≡ former → opened_group K (holder K pid) ≡ Some g → group_of K o ≡ Some g
+      → (groups.StandsFor S (ev (Worker w) (OpenMem pid (Ok tt)) ∷ K) living (memories_in R.workers) R.groups → IsOneOf (one_more (memories_in R.workers) o) former
+      → groups.StandsFor S (ev (Worker w) (OpenMem pid (Ok tt)) ∷ K) living (without (one_more (memories_in R.workers) o) former) G)
       → new ≡ set R.workers w (record (row_of R.workers w) { memory = Some o }) → StandsFor S (ev (Worker w) (OpenMem pid (Ok tt)) ∷ K) living (record R { groups = G; workers = new })
-  opened w pid o g G new l none q at f is =
+  opened w pid o g former G new l was own at f is =
       let e = ev (Worker w) (OpenMem pid (Ok tt)) in
-      let free = no-memory K (mem K w) (row_of R.workers w).memory (T.workers.workers w).memory_is none in
       after S K living R T e living G R.listener new refl
-      (alike (state S (e ∷ K) living (one_more (memories_in R.workers) o)) living (memories_in new) G (f (groups-kept S K living R T e refl)) (λ x. refl) (λ x. rw is (memories-more R.workers w _ (there l) o free refl x)))
-      (listening.stands-other S.firstid K R.listener T.listener e tt) (rw is (rows-opened S K R.workers w T.workers l pid o g q at))
+      (alike (state S (e ∷ K) living (without (one_more (memories_in R.workers) o) former)) living (memories_in new) G (f (groups-kept S K living R T e refl) (one-of former was)) (λ x. refl) (λ x. rw is (counted former was x)))
+      (listening.stands-other S.firstid K R.listener T.listener e tt) (rw is (rows-opened S K R.workers w T.workers l pid o g own at))
+    where
+      one-of : (m : Option ℕ) → (row_of R.workers w).memory ≡ m → IsOneOf (one_more (memories_in R.workers) o) m
+      one-of None q = tt
+      one-of (Some h) q = still (memories_in R.workers) o h (memories-some R.workers w h q)
+
+      counted : (m : Option ℕ) → (row_of R.workers w).memory ≡ m → (x : ℕ) → memories_in (set R.workers w (record (row_of R.workers w) { memory = Some o })) x ≡ without (one_more (memories_in R.workers) o) m x
+      counted None q x = memories-more R.workers w (record (row_of R.workers w) { memory = Some o }) (there l) o q refl x
+      counted (Some h) q x = memories-moved R.workers w (record (row_of R.workers w) { memory = Some o }) (there l) h o q refl x
 
   -- a worker opened a base
   pub based : (w pid : ℕ) (d : ℤ) (base : Option NodeRef) (new : List WorkerRow) → w ≤ 16 → base_of S (files S K) (place_or (opened_group K (holder K pid))) d ≡ ordinal_of base

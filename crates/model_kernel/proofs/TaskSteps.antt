@@ -167,8 +167,8 @@ entry-plain K a nr args (Fails e) h = record { plain = record { keeps = refl; tr
 entry-plain K a nr args NoSys h = record { plain = record { keeps = refl; tree = refl; other = tt; makes_none = refl; is_step = refl }; keeps = refl; ends_none = refl }
 
 -- the task, which waits in no listed call, enters one
-pub entering : (k : Kernel) (o slot x : ℕ) (nr : ℤ) (args : List ℕ) → MayStep k o → call_of (past k) (named k o) ≡ None → IsEntry (past k) (step_by k o (Enter nr args (Notify x))) (record { slot = slot; ordinal = o }) x
-entering k o slot x nr args m none = record { made = m.made; who = refl; nr = nr; args = args; is = refl; free = none }
+pub entering : (k : Kernel) (o x : ℕ) (nr : ℤ) (args : List ℕ) → MayStep k o → call_of (past k) (named k o) ≡ None → IsEntry (past k) (step_by k o (Enter nr args (Notify x))) (record { ordinal = o }) x
+entering k o x nr args m none = record { made = m.made; who = refl; nr = nr; args = args; is = refl; free = none }
 
 -- ---- threads and processes
 

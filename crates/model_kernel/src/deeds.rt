@@ -18,6 +18,7 @@ ghost use Rattle.model_kernel.specs.Stands.{HasPlantRoom};
 ghost use Rattle.model_kernel.specs.Steps.{IsServed};
 
 use crate::kernel::{Kernel, same};
+use crate::listening::close;
 use hist_model::boxed::Boxed;
 use hist_model::event::What;
 use hist_model::policy::Cap;
@@ -143,13 +144,12 @@ impl Kernel {
         answer
     }
 
-    /// A worker, which has no memory open, opens that of the task that holds a PID: ESRCH exactly where no living
-    /// task holds it.
+    /// A worker opens the memory of the task that holds a PID, which takes the place of the one that it has open: ESRCH exactly
+    /// where no living task holds it.
     pub fn open_mem(&mut self, worker: u8, pid: u32) -> Result<(), Errno>
         requires kernel { IsKernel self.old }
         requires room { 0 < self.old.history.spare }
         requires worker { worker ≤ 16 }
-        requires free { mem (past self.old) worker ≡ None }
         ensures deed { DoesDeed self.old worker (deed.OpenMem pid) self.new }
         ensures answer { result ≡ (if lives (past self.old) (holder (past self.old) pid) then Ok tt else Err esrch) }
     {
@@ -163,7 +163,9 @@ impl Kernel {
             );
             return Err(Errno::ESRCH);
         };
+        let former = self.resources.workers.memory(worker);
         self.resources.groups.opened(group);
+        close(&mut self.resources.groups, former);
         self.resources.workers.opened_memory(worker, group);
         self.note(
             worker,
@@ -259,7 +261,7 @@ impl Kernel {
     }
 
     /// The group of the living task that holds a PID: none exactly where no living task holds it.
-    fn living_group(&self, pid: u32) -> Option<u32>
+    pub(crate) fn living_group(&self, pid: u32) -> Option<u32>
         requires { IsKernel self.now }
         ensures live { IfSome result (λ o. IsLive self.now.resources.groups o) }
         ensures some { IfSome result (λ o. lives (past self.now) (holder (past self.now) pid) ≡ true) }

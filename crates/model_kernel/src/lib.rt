@@ -15,6 +15,7 @@ mod kernel;
 mod keys;
 pub mod laws;
 mod listening;
+mod looks;
 mod natives;
 mod reads;
 mod ready;

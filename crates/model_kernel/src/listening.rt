@@ -215,7 +215,7 @@ impl Kernel {
 }
 
 /// Closes the memory of a group, if there is one.
-fn close(groups: &mut Groups, group: Option<u32>)
+pub(crate) fn close(groups: &mut Groups, group: Option<u32>)
     requires { (g : ℕ) → group ≡ Some g → HasRow groups.old g }
     ensures { (s : State) → Holds s groups.old → IsOneOf s.handles group → Holds (record s { handles = without s.handles group }) groups.new }
 {

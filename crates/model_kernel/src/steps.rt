@@ -141,10 +141,7 @@ impl Kernel {
         requires due { due_step self.old task ≡ Enter nr args.now (Notify ((self.old.script.firstid + calls (past self.old)) % 2 ^ 64)) }
         ensures { Acts self.old task result self.new }
     {
-        let id = self.resources.listener.enter(TaskRef {
-            slot: 0,
-            ordinal: task,
-        });
+        let id = self.resources.listener.enter(TaskRef { ordinal: task });
         let what = What::Enter {
             nr,
             args: *args,

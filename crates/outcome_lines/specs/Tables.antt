@@ -8,7 +8,7 @@ use Rattle.hist_model.specs.declared.event.What.TheVariants.{Enter}
 use Rattle.audit_log.specs.Begun.{finding_in}
 use Rattle.audit_log.specs.Records.{record_in}
 use Rattle.audit_log.specs.Served.{row_at}
-use Rattle.audit_log.specs.declared.call_table.CallTable.{CallTable}
+use Rattle.audit_log.specs.declared.kept_calls.CallTable.{CallTable}
 use Rattle.audit_log.specs.declared.session.SessionRecord.{SessionRecord}
 use Rattle.outcome_text.specs.Outcomes.{calls_of, did, is_call_of}
 use Rattle.outcome_text.specs.declared.mark.Mark.{Mark}

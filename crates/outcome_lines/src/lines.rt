@@ -9,7 +9,7 @@ ghost use Rattle.outcome_lines.specs.Lines.{gathered, has_place, lines_with, sig
 ghost use Rattle.outcome_lines.specs.Tables.{kept_at, kept_by, kept_line, kept_told, kept_told_if};
 
 use crate::line::{Line, Sight, Told};
-use audit_log::call_table::CallTable;
+use audit_log::kept_calls::CallTable;
 use audit_log::line::LineBuffer;
 use audit_log::served::{place_at, served_calls};
 use audit_log::session::SessionRecord;

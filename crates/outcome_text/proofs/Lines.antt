@@ -23,7 +23,7 @@ use Rattle.audit_log.specs.Records.{record_in}
 use Rattle.audit_log.specs.Served.{TellsSessions, row_at, session_by, session_for}
 use Rattle.audit_log.specs.SessionStages.{stages_at}
 use Rattle.audit_log.specs.Sessions.{begun}
-use Rattle.audit_log.specs.declared.call_table.CallTable.{CallTable}
+use Rattle.audit_log.specs.declared.kept_calls.CallTable.{CallTable}
 use Rattle.audit_log.specs.declared.session.SessionRecord.{SessionRecord}
 use Rattle.audit_log.proofs.Past.{past_more}
 use Rattle.audit_log.proofs.Recorded.{task_of}

@@ -6,7 +6,7 @@ use Rattle.hist_model.specs.declared.event.Event.{Event}
 use Rattle.audit_log.specs.Audited.{audited}
 use Rattle.audit_log.specs.Records.{record_in}
 use Rattle.audit_log.specs.Served.{row_at}
-use Rattle.audit_log.specs.declared.call_table.CallTable.{CallTable}
+use Rattle.audit_log.specs.declared.kept_calls.CallTable.{CallTable}
 use Rattle.audit_log.specs.declared.session.SessionRecord.{SessionRecord}
 use Rattle.outcome_text.specs.Outcomes.{audit_text, calls_of, did, entry_of, is_among, is_call_of, session_text}
 

@@ -10,7 +10,7 @@ ghost use Rattle.outcome_text.specs.Tables.{kept_text, lines_at, lines_by};
 
 use crate::deeds::push_deeds;
 use crate::words::{push_audit, push_entry};
-use audit_log::call_table::CallTable;
+use audit_log::kept_calls::CallTable;
 use audit_log::line::LineBuffer;
 use audit_log::served::place_at;
 use audit_log::session::SessionRecord;

@@ -12,6 +12,7 @@ use Rattle.sys_abi.specs.Wire.{resp_bytes, addfd_bytes}
 use Rattle.step_requests.specs.declared.fault.LineFault.{LineFault}
 use Rattle.step_requests.specs.declared.fault.LineFault.TheVariants as fault
 use Rattle.step_requests.specs.declared.request.Asked.TheVariants as asks
+use Rattle.step_requests.specs.declared.request.Look.TheVariants as looks_at
 use Rattle.step_requests.specs.declared.request.StepRequest.{StepRequest}
 use Rattle.step_requests.specs.declared.request.StepRequest.TheVariants as step
 use Rattle.step_requests.specs.Operands.{fault_from}
@@ -37,6 +38,21 @@ judgements :
     ≡ Ok (step.Judge false) ∷ Ok (step.Judge true) ∷ Err (fault.Reason reason.UnknownWord) ∷ Err (fault.Reason reason.WrongCount) ∷ Err (fault.Reason reason.UnknownWord) ∷ []
 unfolding tokens split numbered without_return is_skipped digits_value decode_pairs fault_from
 judgements = refl
+
+looks :
+    reads (codes "look pid 301") ∷ reads (codes "look fd 301 5") ∷ reads (codes "look path 301 -100 \"/dev\" follow") ∷ reads (codes "look path 301 4 \"a b\" nofollow") ∷ reads (codes "look listener") ∷ []
+    ≡ Ok (step.Look (looks_at.Pid 301)) ∷ Ok (step.Look (looks_at.Fd 301 5)) ∷ Ok (step.Look (looks_at.Path 301 (negsuc 99) (codes "/dev") true))
+    ∷ Ok (step.Look (looks_at.Path 301 (pos 4) (codes "a b") false)) ∷ Ok (step.Look looks_at.Listener) ∷ []
+unfolding tokens split numbered without_return is_skipped digits_value decode_pairs fault_from
+looks = refl
+
+no_looks :
+    reads (codes "look") ∷ reads (codes "look task 1") ∷ reads (codes "look pid") ∷ reads (codes "look listener 1") ∷ reads (codes "look path 1 -100 \"/\" up")
+    ∷ reads (codes "look path 1 -100 /dev follow") ∷ reads (codes "look fd 1 -1") ∷ reads (codes "look pid \"1\"") ∷ []
+    ≡ Err (fault.Reason reason.WrongCount) ∷ Err (fault.Reason reason.UnknownWord) ∷ Err (fault.Reason reason.WrongCount) ∷ Err (fault.Reason reason.WrongCount)
+    ∷ Err (fault.Reason reason.UnknownName) ∷ Err (fault.Reason reason.WrongForm) ∷ Err (fault.Reason reason.OutOfRange) ∷ Err (fault.Reason reason.WrongForm) ∷ []
+unfolding tokens split numbered without_return is_skipped digits_value decode_pairs fault_from
+no_looks = refl
 
 -- an answer of ENOENT by its fields, and one by its bytes; a descriptor by its fields
 structures :

@@ -16,6 +16,8 @@ use Rattle.step_requests.specs.declared.word.Form.{Form}
 use Rattle.step_requests.specs.declared.word.Form.TheVariants as form
 use Rattle.step_requests.specs.declared.word.Deed.{Deed}
 use Rattle.step_requests.specs.declared.word.Deed.TheVariants as deed
+use Rattle.step_requests.specs.declared.word.LookAt.{LookAt}
+use Rattle.step_requests.specs.declared.word.LookAt.TheVariants as look
 use Rattle.step_requests.specs.declared.operand.Operand.{Operand}
 use Rattle.step_requests.specs.declared.operand.Operand.TheVariants as operand
 use Rattle.step_requests.specs.declared.operand.Structure.{Structure}
@@ -63,11 +65,19 @@ abbrev pub more_operands : Deed → ℕ
 more_operands deed.Mount = 3
 more_operands _ = 0
 
+-- how many operands a `look` has
+abbrev pub look_count : LookAt → ℕ
+look_count look.Pid = 1
+look_count look.Fd = 2
+look_count look.Path = 4
+look_count look.Listener = 0
+
 -- how many tokens a line has at least
 abbrev pub least_tokens : Form → ℕ
 least_tokens form.Task = 2
 least_tokens (form.Judge true) = 2
 least_tokens (form.Worker d) = words_before d + operand_count d
+least_tokens (form.Look at) = 2 + look_count at
 least_tokens _ = 1
 
 -- how many tokens it may have beyond that
@@ -160,10 +170,25 @@ worker_operand d tokens place =
     if place == 1 then seat
     else (if nat_le (words_before d) place then deed_operand d (tokens - words_before d) (place - words_before d) else operand.Word)
 
+-- the PID, the descriptor, the path, and whether a link at its end is followed
+abbrev pub look_path_operand : ℕ → Operand
+look_path_operand place =
+    if place == 0 then word else (if place == 1 then signed_word else (if place == 2 then c_string else operand.Follow))
+
+-- of what is looked at; the PID, and a descriptor of its task
+abbrev pub looked_operand : LookAt → ℕ → Operand
+looked_operand look.Path place = look_path_operand place
+looked_operand _ place = word
+
+-- before these stand two words
+abbrev pub look_operand : LookAt → ℕ → Operand
+look_operand at place = if nat_le 2 place then looked_operand at (place - 2) else operand.Word
+
 -- of a line with so many tokens
 abbrev pub operand_at : Form → ℕ → ℕ → Operand
 operand_at (form.Worker d) tokens place = worker_operand d tokens place
 operand_at (form.Judge idle) tokens place = operand.Word
+operand_at (form.Look at) tokens place = look_operand at place
 operand_at _ tokens place = first_or place operand.Word operand.Task
 
 -- ---- the faults that an operand shows by itself
@@ -185,6 +210,10 @@ decoding_fault (Err _) = Some reason.OutOfRange
 abbrev pub hex_fault : Structure → List ℕ → Option Reason
 hex_fault s digits = decoding_fault (decode_sized digits (size_of s))
 
+-- the word says whether a link is followed
+abbrev pub says_follow : List ℕ → Bool
+says_follow bytes = bytes_eq bytes (codes "follow") || bytes_eq bytes (codes "nofollow")
+
 -- an operand without quotes
 abbrev pub word_fault : Operand → List ℕ → Option Reason
 word_fault operand.Word bytes = None
@@ -193,6 +222,7 @@ word_fault (operand.Bytes s) bytes = hex_fault s bytes
 word_fault operand.Task bytes = fault_unless (is_task_text bytes) reason.BadNumber
 word_fault operand.Via bytes = fault_unless (bytes_eq bytes (codes "via")) reason.UnknownName
 word_fault operand.Shift bytes = fault_unless (bytes_eq bytes (codes "shift")) reason.UnknownName
+word_fault operand.Follow bytes = fault_unless (says_follow bytes) reason.UnknownName
 word_fault (operand.Text zeros) bytes = Some reason.WrongForm
 
 -- an operand between quotes

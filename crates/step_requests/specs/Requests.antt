@@ -1,6 +1,6 @@
 -- What a line without a fault asks for. Its values have the places of their tokens in the line, counted from 0.
 use Rattle.std.specs.Prelude.{ℕ, ◌+◌, ◌^◌, Bool, ◌||◌, ◌==◌, nat_le, if◌then◌else◌, List, [], length, slice_get, replicate, Option}
-use Rattle.std.specs.Prelude.{Some, None}
+use Rattle.std.specs.Prelude.{Some, None, bytes_eq, codes}
 use Rattle.std.specs.Prelude.{◌-◌, unwrap_or, ℤ, pos, neg_ℤ, Result, Ok, Err}
 use Rattle.hex.specs.Hex.{decode_sized}
 use Rattle.hex.specs.declared.error.FromHexError.{FromHexError}
@@ -17,12 +17,16 @@ use Rattle.step_requests.specs.declared.fault.LineFault.{LineFault}
 use Rattle.step_requests.specs.declared.fault.LineFault.TheVariants as fault
 use Rattle.step_requests.specs.declared.request.Asked.{Asked}
 use Rattle.step_requests.specs.declared.request.Asked.TheVariants as asks
+use Rattle.step_requests.specs.declared.request.Look.{Look}
+use Rattle.step_requests.specs.declared.request.Look.TheVariants as looks
 use Rattle.step_requests.specs.declared.request.StepRequest.{StepRequest}
 use Rattle.step_requests.specs.declared.request.StepRequest.TheVariants as step
 use Rattle.step_requests.specs.declared.word.Form.{Form}
 use Rattle.step_requests.specs.declared.word.Form.TheVariants as form
 use Rattle.step_requests.specs.declared.word.Deed.{Deed}
 use Rattle.step_requests.specs.declared.word.Deed.TheVariants as deed
+use Rattle.step_requests.specs.declared.word.LookAt.{LookAt}
+use Rattle.step_requests.specs.declared.word.LookAt.TheVariants as at
 use Rattle.step_requests.specs.Names.{task_numbers}
 use Rattle.step_requests.specs.Numbers.{below, between}
 
@@ -138,6 +142,13 @@ asked deed.Send line = asks.Send (resp_bytes (resp_at line))
 asked deed.SendRaw line = asks.Send (structure_at 24 line 3)
 asked deed.LetGo line = asks.LetGo
 
+-- what is looked at; the last word of a path says whether a link at its end is followed
+abbrev pub look_of : LookAt → List Token → Look
+look_of at.Pid line = looks.Pid (word_at line 2)
+look_of at.Fd line = looks.Fd (word_at line 2) (word_at line 3)
+look_of at.Path line = looks.Path (word_at line 2) (signed_word_at line 3) (bytes_at line 4) (bytes_eq (bytes_at line 5) (codes "follow"))
+look_of at.Listener line = looks.Listener
+
 -- the number of the worker, where it is at most 15
 abbrev pub worker_at : List Token → Option ℕ
 worker_at line = below 16 (number_at line 1)
@@ -154,4 +165,5 @@ request (form.Worker d) line = by_worker (worker_at line) (asked d line)
 request form.Report line = Ok step.Report
 request form.Script line = Ok step.Script
 request (form.Judge idle) line = Ok (step.Judge idle)
+request (form.Look a) line = Ok (step.Look (look_of a line))
 request form.Close line = Ok step.Close

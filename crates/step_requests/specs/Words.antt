@@ -8,6 +8,8 @@ use Rattle.step_requests.specs.declared.word.Form.{Form}
 use Rattle.step_requests.specs.declared.word.Form.TheVariants as form
 use Rattle.step_requests.specs.declared.word.Deed.{Deed}
 use Rattle.step_requests.specs.declared.word.Deed.TheVariants as deed
+use Rattle.step_requests.specs.declared.word.LookAt.{LookAt}
+use Rattle.step_requests.specs.declared.word.LookAt.TheVariants as look
 
 -- the word that a token is; a text between quotes is none, and no word is empty
 abbrev pub word_of : Token → List ℕ
@@ -81,6 +83,24 @@ abbrev pub form_behind_judge : List Token → Result Form Reason
 form_behind_judge [] = Ok (form.Judge false)
 form_behind_judge (how ∷ more) = if bytes_eq (word_of how) (codes "idle") then Ok (form.Judge true) else Err UnknownWord
 
+-- what is looked at
+abbrev pub look_named : List ℕ → Option LookAt
+look_named word =
+    if bytes_eq word (codes "pid") then Some look.Pid
+    else (if bytes_eq word (codes "fd") then Some look.Fd
+    else (if bytes_eq word (codes "path") then Some look.Path
+    else (if bytes_eq word (codes "listener") then Some look.Listener
+    else None)))
+
+abbrev pub look_form : Option LookAt → Result Form Reason
+look_form (Some at) = Ok (form.Look at)
+look_form None = Err UnknownWord
+
+-- behind `look` stands what is looked at
+abbrev pub form_behind_look : List Token → Result Form Reason
+form_behind_look [] = Err WrongCount
+form_behind_look (at ∷ operands) = look_form (look_named (word_of at))
+
 abbrev pub known : Option Form → Result Form Reason
 known (Some f) = Ok f
 known None = Err UnknownWord
@@ -93,4 +113,6 @@ abbrev pub form_of : List Token → Result Form Reason
 form_of [] = Err UnknownWord
 form_of (first ∷ rest) =
     if bytes_eq (word_of first) (codes "w") then form_behind_w rest
-    else (if bytes_eq (word_of first) (codes "judge") then form_behind_judge rest else plain_form (word_of first))
+    else (if bytes_eq (word_of first) (codes "judge") then form_behind_judge rest
+    else (if bytes_eq (word_of first) (codes "look") then form_behind_look rest
+    else plain_form (word_of first)))

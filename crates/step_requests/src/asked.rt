@@ -1,13 +1,13 @@
-//! What a worker's line asks for.
+//! What a worker's line asks for, and what a line looks at.
 
 ghost use Rattle.std.specs.Prelude.{◌≡◌, ◌<◌, IfOk};
 ghost use Rattle.step_requests.specs.Requests as definitions;
 
-use crate::request::Asked;
+use crate::request::{Asked, Look};
 use crate::values::{
-    half_at, signed_wide_at, signed_word_at, structure_at, text_at, wide_at, word_at,
+    bytes_at, half_at, signed_wide_at, signed_word_at, structure_at, text_at, wide_at, word_at,
 };
-use crate::word::Deed;
+use crate::word::{Deed, LookAt};
 use hist_model::boxed::Boxed;
 use hist_model::request::Request;
 use hist_model::text::Text;
@@ -153,4 +153,26 @@ pub fn asked(alloc: Global, deed: Deed, line: &[Token<'_>]) -> Result<Asked, NoM
         Deed::SendRaw => Ok(Asked::Send(structure_at::<24>(line, 3))),
         Deed::LetGo => Ok(Asked::LetGo),
     }
+}
+
+/// What a line looks at, where its operands have no fault.
+pub fn look_of(alloc: Global, at: LookAt, line: &[Token<'_>]) -> Result<Look, AllocError>
+    ensures { IfOk result (λ look. look ≡ definitions.look_of at line.now) }
+{
+    Ok(match at {
+        LookAt::Pid => Look::Pid {
+            pid: word_at(line, 2),
+        },
+        LookAt::Fd => Look::Fd {
+            pid: word_at(line, 2),
+            number: word_at(line, 3),
+        },
+        LookAt::Path => Look::Path {
+            pid: word_at(line, 2),
+            dirfd: signed_word_at(line, 3),
+            path: text_at(alloc, line, 4)?,
+            follows: bytes_at(line, 5) == b"follow".as_slice(),
+        },
+        LookAt::Listener => Look::Listener,
+    })
 }

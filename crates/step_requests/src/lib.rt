@@ -25,4 +25,4 @@ pub mod word;
 pub use fault::LineFault;
 pub use lex_core::Reason;
 pub use reading::read_request;
-pub use request::{Asked, StepRequest, Turn};
+pub use request::{Asked, Look, StepRequest, Turn};

@@ -4,7 +4,7 @@ ghost use Rattle.std.specs.Prelude.{◌≡◌, ◌≤◌, ◌<◌, ◌^◌, leng
 ghost use Rattle.step_requests.specs.Operands as definitions;
 
 use crate::names::is_task_text;
-use crate::word::{Deed, Form};
+use crate::word::{Deed, Form, LookAt};
 use hex::FromHexError;
 use lex_core::{Reason, Token, read_number};
 
@@ -34,6 +34,8 @@ pub enum Operand {
     Via,
     /// The word `shift`.
     Shift,
+    /// The word `follow` or `nofollow`.
+    Follow,
 }
 
 /// The size of the largest structure.
@@ -88,6 +90,19 @@ fn more_operands(deed: Deed) -> usize
     }
 }
 
+/// How many operands a `look` has.
+fn look_count(at: LookAt) -> usize
+    ensures value { result ≡ definitions.look_count at }
+    ensures few { result ≤ 4 }
+{
+    match at {
+        LookAt::Pid => 1,
+        LookAt::Fd => 2,
+        LookAt::Path => 4,
+        LookAt::Listener => 0,
+    }
+}
+
 /// How many tokens a line has at least.
 fn least_tokens(form: Form) -> usize
     ensures value { result ≡ definitions.least_tokens form }
@@ -95,6 +110,7 @@ fn least_tokens(form: Form) -> usize
 {
     match form {
         Form::Worker(deed) => words_before(deed) + operand_count(deed),
+        Form::Look(at) => 2 + look_count(at),
         Form::Task | Form::Judge { idle: true } => 2,
         _ => 1,
     }
@@ -292,6 +308,31 @@ fn worker_operand(deed: Deed, tokens: usize, place: usize) -> Operand
     }
 }
 
+/// What an operand of a path that is looked at has to be: the PID, the descriptor, the path, and whether a link is followed.
+fn look_path_operand(place: usize) -> Operand
+    ensures { result ≡ definitions.look_path_operand place }
+{
+    match place {
+        0 => word(),
+        1 => signed_word(),
+        2 => c_string(),
+        _ => Operand::Follow,
+    }
+}
+
+/// What the token at a place of a `look` has to be.
+fn look_operand(at: LookAt, place: usize) -> Operand
+    ensures { result ≡ definitions.look_operand at place }
+{
+    if place < 2 {
+        return Operand::Word;
+    }
+    match at {
+        LookAt::Path => look_path_operand(place - 2),
+        LookAt::Pid | LookAt::Fd | LookAt::Listener => word(),
+    }
+}
+
 /// What the token at a place of a line with so many has to be.
 fn operand_at(form: Form, tokens: usize, place: usize) -> Operand
     requires { place ≤ tokens }
@@ -300,6 +341,7 @@ fn operand_at(form: Form, tokens: usize, place: usize) -> Operand
     match form {
         Form::Worker(deed) => worker_operand(deed, tokens, place),
         Form::Judge { .. } => Operand::Word,
+        Form::Look(at) => look_operand(at, place),
         _ => first_or(place, Operand::Word, Operand::Task),
     }
 }
@@ -333,6 +375,13 @@ fn hex_fault(structure: Structure, digits: &[u8]) -> Option<Reason>
     }
 }
 
+/// Whether a word says if a link is followed.
+fn says_follow(word: &[u8]) -> bool
+    ensures { result ≡ definitions.says_follow word.now }
+{
+    word == b"follow".as_slice() || word == b"nofollow".as_slice()
+}
+
 /// The fault of an operand without quotes.
 fn word_fault(kind: Operand, bytes: &[u8]) -> Option<Reason>
     ensures { result ≡ definitions.word_fault kind bytes.now }
@@ -344,6 +393,7 @@ fn word_fault(kind: Operand, bytes: &[u8]) -> Option<Reason>
         Operand::Task => fault_unless(is_task_text(bytes), Reason::BadNumber),
         Operand::Via => fault_unless(bytes == b"via".as_slice(), Reason::UnknownName),
         Operand::Shift => fault_unless(bytes == b"shift".as_slice(), Reason::UnknownName),
+        Operand::Follow => fault_unless(says_follow(bytes), Reason::UnknownName),
         Operand::Text { .. } => Some(Reason::WrongForm),
     }
 }

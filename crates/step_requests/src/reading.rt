@@ -6,7 +6,7 @@ ghost use Rattle.step_requests.specs.Readings.{HasSeat, Refuses};
 ghost use Rattle.step_requests.specs.Requests as requests;
 ghost use Rattle.step_requests.specs.declared.word.Form.TheVariants.{Worker};
 
-use crate::asked::asked;
+use crate::asked::{asked, look_of};
 use crate::fault::LineFault;
 use crate::names::task_name;
 use crate::operand::line_fault;
@@ -60,6 +60,7 @@ fn request(
         Form::Report => Ok(StepRequest::Report),
         Form::Script => Ok(StepRequest::Script),
         Form::Judge { idle } => Ok(StepRequest::Judge { idle }),
+        Form::Look(at) => Ok(StepRequest::Look(look_of(alloc, at, line)?)),
         Form::Close => Ok(StepRequest::Close),
     }
 }

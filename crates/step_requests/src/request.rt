@@ -2,7 +2,7 @@
 
 use hist_model::boxed::Boxed;
 use hist_model::request::Request;
-use hist_model::text::TaskName;
+use hist_model::text::{TaskName, Text};
 
 /// What a line asks for.
 #[derive(Debug, Drop)]
@@ -25,8 +25,34 @@ pub enum StepRequest {
     Judge {
         idle: bool,
     },
+    /// How something stands. Nothing happens by it.
+    Look(Look),
     /// That the listener be closed.
     Close,
+}
+
+/// What is looked at.
+#[derive(Debug, Drop)]
+pub enum Look {
+    /// The task that holds this PID (proc(5)).
+    Pid {
+        pid: u32,
+    },
+    /// What a descriptor of the task with this PID leads to.
+    Fd {
+        pid: u32,
+        number: u32,
+    },
+    /// Where a path leads that the task with this PID would walk from this descriptor (openat(2)). A link at its end may not be
+    /// followed (O_NOFOLLOW).
+    Path {
+        pid: u32,
+        dirfd: i32,
+        path: Text,
+        follows: bool,
+    },
+    /// Whether the listener can be read and written (poll(2)).
+    Listener,
 }
 
 /// A line of a schedule in which a worker of another broker has requests. A worker's number is 0 to 15.

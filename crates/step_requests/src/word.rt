@@ -17,7 +17,18 @@ pub enum Form {
     Script,
     /// `judge`, and with `idle` behind it, of a broker that does nothing more.
     Judge { idle: bool },
+    /// `look`, and what is looked at.
+    Look(LookAt),
     Close,
+}
+
+/// What a line looks at.
+#[derive(Clone, Copy)]
+pub enum LookAt {
+    Pid,
+    Fd,
+    Path,
+    Listener,
 }
 
 /// Which of a worker's requests a line is. The raw ones have a structure's bytes, and the others its fields.
@@ -188,7 +199,44 @@ fn form_behind_judge(rest: &[Token<'_>]) -> Result<Form, Reason>
     }
 }
 
-/// Which request a line is that begins with a word other than `w` and `judge`.
+/// What a word behind `look` names.
+fn look_named(word: &[u8]) -> Option<LookAt>
+    ensures { result ≡ definitions.look_named word.now }
+{
+    if word == b"pid".as_slice() {
+        Some(LookAt::Pid)
+    } else if word == b"fd".as_slice() {
+        Some(LookAt::Fd)
+    } else if word == b"path".as_slice() {
+        Some(LookAt::Path)
+    } else if word == b"listener".as_slice() {
+        Some(LookAt::Listener)
+    } else {
+        None
+    }
+}
+
+/// What a line looks at, where a word names it.
+fn look_form(at: Option<LookAt>) -> Result<Form, Reason>
+    ensures { result ≡ definitions.look_form at }
+{
+    match at {
+        Some(at) => Ok(Form::Look(at)),
+        None => Err(Reason::UnknownWord),
+    }
+}
+
+/// Which request a line is whose tokens behind `look` are these.
+fn form_behind_look(rest: &[Token<'_>]) -> Result<Form, Reason>
+    ensures { result ≡ definitions.form_behind_look rest.now }
+{
+    match rest.first() {
+        Some(at) => look_form(look_named(word_of(at))),
+        None => Err(Reason::WrongCount),
+    }
+}
+
+/// Which request a line is that begins with a word other than `w`, `judge` and `look`.
 fn plain_form(word: &[u8]) -> Result<Form, Reason>
     ensures { result ≡ definitions.plain_form word.now }
 {
@@ -211,6 +259,8 @@ pub fn form_of(line: &[Token<'_>]) -> Result<Form, Reason>
         form_behind_w(rest)
     } else if word == b"judge".as_slice() {
         form_behind_judge(rest)
+    } else if word == b"look".as_slice() {
+        form_behind_look(rest)
     } else {
         plain_form(word)
     }

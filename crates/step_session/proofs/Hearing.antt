@@ -68,6 +68,7 @@ open-more P S K (step.Worker w a) open-still = worker-more S K w a (refused K w 
 open-more P S K step.Report open-still = inl refl
 open-more P S K step.Script open-still = inl refl
 open-more P S K (step.Judge idle) open-still = inl refl
+open-more P S K (step.Look l) open-still = inl refl
 open-more P S K step.Close open-still = step-more K Listener Close open-still
 
 closed-more : (P : Origin) (S : Script) (K : List Event) (r : StepRequest) → IsOneMore K (closed_answer P S K r).0
@@ -77,6 +78,7 @@ closed-more P S K (step.Worker w a) = inl refl
 closed-more P S K step.Report = inl refl
 closed-more P S K step.Script = inl refl
 closed-more P S K (step.Judge idle) = inl refl
+closed-more P S K (step.Look l) = inl refl
 closed-more P S K step.Close = inl refl
 
 one-more : (P : Origin) (S : Script) (K : List Event) (r : StepRequest) → IsOneMore K (answered P S K r).0

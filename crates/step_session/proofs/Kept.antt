@@ -19,6 +19,7 @@ open-kept P S K (step.Worker w a) asked begun open-still = asked_kept S K w a (l
 open-kept P S K step.Report asked begun open-still = begun
 open-kept P S K step.Script asked begun open-still = begun
 open-kept P S K (step.Judge idle) asked begun open-still = begun
+open-kept P S K (step.Look l) asked begun open-still = begun
 open-kept P S K step.Close asked begun open-still = step_kept S K Listener Close begun open-still refl refl
 
 closed-kept : (P : Origin) (S : Script) (K : List Event) (r : StepRequest) → IsBegun S K → IsBegun S (closed_answer P S K r).0
@@ -28,6 +29,7 @@ closed-kept P S K (step.Worker w a) begun = begun
 closed-kept P S K step.Report begun = begun
 closed-kept P S K step.Script begun = begun
 closed-kept P S K (step.Judge idle) begun = begun
+closed-kept P S K (step.Look l) begun = begun
 closed-kept P S K step.Close begun = begun
 
 pub kept : (P : Origin) (S : Script) (K : List Event) (r : StepRequest) → IsAsked r → IsBegun S K → IsBegun S (answered P S K r).0

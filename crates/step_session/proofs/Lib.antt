@@ -8,6 +8,5 @@ pub mod Fronts
 pub mod Kept
 pub mod Hearing
 pub mod Telling
-pub mod AbleTasks
 pub mod Told
 pub mod Stepping

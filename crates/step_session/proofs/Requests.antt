@@ -98,6 +98,7 @@ of-form (form.Worker d) line r fine h = by-seat (worker_at line) (asked d line) 
 of-form form.Report line r fine h = subst IsAsked (ok-same h) tt
 of-form form.Script line r fine h = subst IsAsked (ok-same h) tt
 of-form (form.Judge idle) line r fine h = subst IsAsked (ok-same h) tt
+of-form (form.Look a) line r fine h = subst IsAsked (ok-same h) tt
 of-form form.Close line r fine h = subst IsAsked (ok-same h) tt
 
 of-fault : (fault : Option Reason) (f : Form) (line : List Token) (r : StepRequest) → line_fault f line ≡ fault → unless_faulty fault f line ≡ Ok r → IsAsked r

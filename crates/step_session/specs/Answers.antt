@@ -1,9 +1,7 @@
 -- What `step` answers to a request, and the history after it. A history has its newest event first.
-use Rattle.std.specs.Prelude.{nat_le, ℕ, zero, suc, Bool, not, if◌then◌else◌, ◌==◌, ◌≡◌, ◌≤◌, true, List, [], ◌++◌}
+use Rattle.std.specs.Prelude.{nat_le, ℕ, Bool, if◌then◌else◌, ◌≡◌, ◌≤◌, true, List}
 use Rattle.std.specs.Prelude.{length, Option, Some, None, codes}
-use Rattle.hist_model.specs.Calls.{count}
 use Rattle.hist_model.specs.Deeds.{Deed}
-use Rattle.hist_model.specs.Kinds.{skips}
 use Rattle.hist_model.specs.Legal.{system_of}
 use Rattle.hist_model.specs.Look.{Name}
 use Rattle.hist_model.specs.Names.{is_task_name}
@@ -21,15 +19,16 @@ use Rattle.judge_pass.specs.Heads.{head_text}
 use Rattle.judge_pass.specs.Idle.{finding_idle}
 use Rattle.step_session.specs.declared.origin.Origin.{Origin}
 use Rattle.hist_model.specs.declared.script.Script.{Script}
-use Rattle.history_frames.specs.Ordinals.{task_name_of, tasks_made}
 use Rattle.step_requests.specs.declared.request.Asked.{Asked}
 use Rattle.step_requests.specs.declared.request.StepRequest.{StepRequest}
 use Rattle.step_requests.specs.declared.request.StepRequest.TheVariants as step
 use Rattle.asked_steps.specs.Asking.{deed_of, refused}
 use Rattle.asked_steps.specs.Steps.{after_asked, after_task, is_closed, with_step}
 use Rattle.asked_steps.specs.declared.refusal.Refusal.{Refusal as RefusedAsked}
+use Rattle.state_answers.specs.Able.{able_text}
+use Rattle.state_answers.specs.Looks.{look_text}
 use Rattle.step_session.specs.Scripts.{most_bytes, most_events, script_text}
-use Rattle.step_session.specs.Texts.{able_name, able_recv, invalid_text, refused_text, sized, step_text}
+use Rattle.step_session.specs.Texts.{invalid_text, refused_text, sized, step_text}
 use Rattle.step_session.specs.declared.refusal.Refusal.TheVariants as refusal
 
 -- ---- steps
@@ -60,19 +59,6 @@ worker_answer S K w asked = (after_asked S K w asked, asked_told S K w asked (re
 
 -- ---- what is told without a step
 
--- the task that was made after so many others is able to step
-abbrev pub is_able : Script → List Event → ℕ → Bool
-is_able S K o = not (skips (task_step (system_of S) K (task_name_of K o)))
-
--- those of the first n tasks that are able to step
-unfoldable pub able_tasks : Script → List Event → ℕ → List ℕ
-able_tasks S K zero = []
-able_tasks S K (suc n) = able_tasks S K n ++ able_name (is_able S K n) (task_name_of K n)
-
--- all of them, and whether a receive wouldn't wait
-abbrev pub able_text : Script → List Event → List ℕ
-able_text S K = codes "able" ++ able_tasks S K (tasks_made K) ++ able_recv (not (count K == 0)) ++ codes "\n"
-
 -- the report so far
 abbrev pub report_text : Origin → List Event → List ℕ
 report_text P K = sized (codes "report") (report (judging_by P.policy.rules) K)
@@ -102,6 +88,7 @@ open_answer P S K (step.Worker w asked) = worker_answer S K w asked
 open_answer P S K step.Report = (K, report_text P K)
 open_answer P S K step.Script = (K, script_answer P K)
 open_answer P S K (step.Judge idle) = (K, judge_text P S K idle)
+open_answer P S K (step.Look l) = (K, look_text S K l)
 open_answer P S K step.Close = stepped K Listener Close
 
 abbrev pub closed_answer : Origin → Script → List Event → StepRequest → List Event × List ℕ

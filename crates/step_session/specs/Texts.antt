@@ -1,11 +1,10 @@
 -- The lines of answers.
-use Rattle.std.specs.Prelude.{ℕ, Bool, if◌then◌else◌, List, [], ◌∷◌, ◌++◌, length, Ok, codes, decimal}
+use Rattle.std.specs.Prelude.{ℕ, if◌then◌else◌, List, [], ◌∷◌, ◌++◌, length, Ok, codes, decimal}
 use Rattle.std.specs.Fmt.{signed_decimal}
 use Rattle.std.specs.List.{flat_map}
 use Rattle.hist_model.specs.Kinds.{skips}
-use Rattle.hist_model.specs.Look.{Name}
 use Rattle.hist_model.specs.ReportJournal.{what_text}
-use Rattle.hist_model.specs.ReportWords.{actor_text, hex_or_dash, name_text}
+use Rattle.hist_model.specs.ReportWords.{actor_text, hex_or_dash}
 use Rattle.hist_model.specs.declared.event.Actor.{Actor}
 use Rattle.hist_model.specs.declared.event.Event.{Event}
 use Rattle.hist_model.specs.declared.event.What.{What}
@@ -57,7 +56,6 @@ step_text K who what = if skips what then codes "skip\n" else event_text (length
 
 -- why what a worker asks for isn't done
 abbrev pub asked_text : RefusedAsked → List ℕ
-asked_text asked.MemoryIsOpen = codes "memory is open"
 asked_text asked.NoMemoryIsOpen = codes "no memory is open"
 asked_text asked.RequestIsPut = codes "request is put"
 asked_text asked.NoRequest = codes "no request"
@@ -89,11 +87,3 @@ invalid_text = codes "error EINVAL\n"
 -- a text behind its word and its length
 abbrev pub sized : List ℕ → List ℕ → List ℕ
 sized word text = word ++ codes " " ++ decimal (length text) ++ codes "\n" ++ text
-
--- ---- who is able to step
-
-abbrev pub able_name : Bool → Name → List ℕ
-able_name able n = if able then codes " " ++ name_text n else []
-
-abbrev pub able_recv : Bool → List ℕ
-able_recv able = if able then codes " recv" else []

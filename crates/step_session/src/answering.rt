@@ -32,6 +32,7 @@ pub(crate) fn answer_request(
         StepRequest::Report => container.report(alloc, origin, answers),
         StepRequest::Script => container.script(alloc, origin, answers),
         StepRequest::Judge { .. } => unreachable!(),
+        StepRequest::Look(look) => container.look(alloc, look, answers),
         StepRequest::Close => container.close(alloc, answers),
     }
 }

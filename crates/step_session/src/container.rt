@@ -14,7 +14,6 @@ ghost use Rattle.step_session.specs.Texts.{event_text};
 ghost use Rattle.step_session.specs.declared.container.State.TheVariants.{Open};
 ghost use Rattle.step_requests.specs.declared.request.StepRequest.TheVariants as step;
 
-use crate::able::push_who_is_able;
 use crate::origin::Origin;
 use crate::refusal::Refusal;
 use crate::reports::push_report;
@@ -25,9 +24,10 @@ use audit_log::line::LineBuffer;
 use hist_model::history::History;
 use hist_model::text::TaskName;
 use model_kernel::{CannotStep, Kernel};
+use state_answers::{push_look, push_who_is_able};
 use std::alloc::Global;
 use std::mem;
-use step_requests::Asked;
+use step_requests::{Asked, Look};
 use sys_abi::memory::NoMemory;
 
 /// What is left of a container.
@@ -136,6 +136,22 @@ impl Container {
     {
         match &self.state {
             State::Open(kernel) => push_who_is_able(alloc, line, kernel),
+            State::Closed(_) => push_refusal(line, Refusal::Closed),
+        }
+    }
+
+    /// Tells what a look sees.
+    pub(crate) fn look(
+        &self,
+        alloc: Global,
+        look: &Look,
+        line: &mut LineBuffer,
+    ) -> Result<(), NoMemory>
+        requires { IsInOrder self.now.state }
+        ensures { OnOk result ((P : OriginValue) → IsAnswered P (step.Look look.now) self.now line.old line.new self.now) }
+    {
+        match &self.state {
+            State::Open(kernel) => push_look(alloc, line, kernel, look),
             State::Closed(_) => push_refusal(line, Refusal::Closed),
         }
     }

@@ -13,11 +13,11 @@
 //! after it; `Judged.antt` says when a container and its judge stand for a history, `Lines.antt` has the lines of the input and their
 //! answers, `Owing.antt` what a session has still to say, and `Serving.antt` what came of serving.
 //!
-//! Below stand the kernel (`model_kernel`), the steps that are asked for (`asked_steps`), the judge (`judge_pass`), the reader of a line
-//! (`step_requests`), the writers of the report (`audit_log`), and files and sinks (`io_edge`).
+//! Below stand the kernel (`model_kernel`), the steps that are asked for (`asked_steps`), what is told without a step
+//! (`state_answers`), the judge (`judge_pass`), the reader of a line (`step_requests`), the writers of the report (`audit_log`), and
+//! files and sinks (`io_edge`).
 #![tactic(auto)]
 
-mod able;
 mod answering;
 mod begun;
 mod container;

@@ -106,7 +106,6 @@ fn asked_text(why: asked_steps::Refusal) -> &'static str
     ensures { result.now ≡ asked_text why }
 {
     match why {
-        asked_steps::Refusal::MemoryIsOpen => "memory is open",
         asked_steps::Refusal::NoMemoryIsOpen => "no memory is open",
         asked_steps::Refusal::RequestIsPut => "request is put",
         asked_steps::Refusal::NoRequest => "no request",

@@ -20,6 +20,12 @@ returns-in-Worker c =
     (λ answered. answered_as c.args.origin.now c.args.request.now _ c.args.container.now c.worker.new.self c.args.answers.now c.worker.new.line c.in-Worker.is (answered c.args.origin.now))
     c.worker.ensures
 
+pub returns-in-Look : goal.returns-in-Look
+returns-in-Look c =
+    on_ok c.look.result
+    (λ answered. answered_as c.args.origin.now c.args.request.now _ c.args.container.now c.args.container.now c.args.answers.now c.look.new.line c.in-Look.is (answered c.args.origin.now))
+    c.look.ensures
+
 pub returns-in-Report : goal.returns-in-Report
 returns-in-Report c =
     on_ok c.report.result

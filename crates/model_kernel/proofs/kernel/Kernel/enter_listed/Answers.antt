@@ -17,4 +17,4 @@ returns c =
     let due = (c.requires.due ∙ ap (λ x. Enter x c.args.args.now (Notify ((k.script.firstid + calls (past k)) % 2 ^ 64))) (sym from)) ∙ ap (λ x. Enter nr c.args.args.now (Notify x)) (sym (c.enter-id.ensures.id k.script.firstid (past k) L)) in
     acted k o w c.stepped.new.self m due _ _ c.enter-id.new.self refl refl refl (λ own. c.stepped.ensures.stands k.script (past k) (step_by k o w) m.kernel.tasks own refl refl)
     (same-counts k.tasks c.stepped.new.self o w refl c.stepped.ensures.count) (groups-other k o w m.kernel refl)
-    (c.enter-id.ensures.step k.script.firstid (past k) (step_by k o w) L (entering k o 0 c.enter-id.result nr c.args.args.now m c.requires.outside))
+    (c.enter-id.ensures.step k.script.firstid (past k) (step_by k o w) L (entering k o c.enter-id.result nr c.args.args.now m c.requires.outside))

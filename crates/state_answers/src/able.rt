@@ -2,8 +2,8 @@
 
 ghost use Rattle.std.specs.Prelude.{◌≡◌, ◌++◌, OnOk};
 ghost use Rattle.model_kernel.specs.Kernels.{IsKernel, past};
-ghost use Rattle.step_session.specs.Answers.{able_tasks, able_text};
-ghost use Rattle.step_session.specs.Texts.{able_name, able_recv};
+ghost use Rattle.state_answers.specs.Able.{able_tasks, able_text};
+ghost use Rattle.state_answers.specs.Able.{able_name, able_recv};
 ghost use Rattle.history_frames.specs.Ordinals.{tasks_made};
 
 use audit_log::line::LineBuffer;
@@ -44,7 +44,7 @@ fn push_receive(line: &mut LineBuffer, able: bool) -> Result<(), NoMemory>
 }
 
 /// Adds the line of those who are able to step.
-pub(crate) fn push_who_is_able(
+pub fn push_who_is_able(
     alloc: Global,
     line: &mut LineBuffer,
     kernel: &Kernel,

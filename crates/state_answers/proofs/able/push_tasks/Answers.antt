@@ -1,10 +1,10 @@
 -- The first tasks, and one more.
 use Rattle.std.proofs.Common.{ap, ◌++◌, ◌∙◌}
 use Rattle.model_kernel.specs.Kernels.{past}
-use Rattle.step_session.specs.Answers.{is_able}
-use Rattle.step_session.specs.Texts.{able_name}
-use Rattle.step_session.proofs.AbleTasks.{able_more, able_none}
-use Rattle.step_session.proofs.able.push_tasks.Goals as goal
+use Rattle.state_answers.specs.Able.{is_able}
+use Rattle.state_answers.specs.Able.{able_name}
+use Rattle.state_answers.proofs.AbleTasks.{able_more, able_none}
+use Rattle.state_answers.proofs.able.push_tasks.Goals as goal
 
 pub loop-task-init : goal.loop-task-init
 loop-task-init c = (able_none c.args.kernel.now.script (past c.args.kernel.now) c.args.line.now, c.tasks-made.ensures c.requires)

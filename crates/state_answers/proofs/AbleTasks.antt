@@ -5,8 +5,8 @@ use Rattle.std.proofs.lemmas.List.{append-nil, append_assoc}
 use Rattle.hist_model.specs.declared.event.Event.{Event}
 use Rattle.hist_model.specs.declared.script.Script.{Script}
 use Rattle.history_frames.specs.Ordinals.{task_name_of}
-use Rattle.step_session.specs.Answers.{able_tasks, is_able}
-use Rattle.step_session.specs.Texts.{able_name}
+use Rattle.state_answers.specs.Able.{able_tasks, is_able}
+use Rattle.state_answers.specs.Able.{able_name}
 
 pub able_none : (S : Script) (K : List Event) (line : List ℕ) → line ≡ line ++ able_tasks S K 0
 unfolding able_tasks

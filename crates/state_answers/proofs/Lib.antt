@@ -1,0 +1,4 @@
+pub mod AbleTasks
+pub mod Held
+pub mod Parents
+pub mod Waits
