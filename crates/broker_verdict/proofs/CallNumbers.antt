@@ -1,40 +1,41 @@
--- What holds of each call that has a plan of its own, and of all others, holds of every number.
--- By cases on the number, as the definition of a call's request has them.
-use Rattle.std.proofs.Common.{false, inl, inr, subst, sym, true, ℕ, ◌≡◌}
-use Rattle.std.proofs.lemmas.Bool.{cases_Bool, eqb-true}
+-- What holds of each call that has a request of its own, and of all others, holds of every number.
+-- By the rows of the table.
+use Rattle.std.proofs.Common.{false, refl, List, [], None, ℕ, pos, ◌≡◌}
 use Rattle.std.specs.Prelude.{◌==◌}
-use Rattle.sys_abi.specs.Calls.{nr_mknod, nr_mknodat, nr_mount, nr_openat, nr_setxattr, nr_sysinfo}
+use Rattle.call_table.proofs.AtRow.{at_row, none_is}
+use Rattle.call_table.specs.Table.{row_in, table}
+use Rattle.hist_model.specs.Copies.{plan}
+use Rattle.hist_model.specs.Requests.{base_dirfd, request}
+use Rattle.hist_model.specs.declared.request.Request.TheVariants.{Other}
+use Rattle.sys_abi.specs.Calls.{nr_close, nr_getpid, nr_mknod, nr_mknodat, nr_mount, nr_openat, nr_setxattr, nr_sysinfo}
 
--- a call without a request of its own
+-- a call without a request of its own: it has no texts, and no path
 pub record IsOther (nr : ℕ) : Type 0 where
-  pub sysinfo : (nr == nr_sysinfo) ≡ false
-  pub mknod : (nr == nr_mknod) ≡ false
-  pub mount : (nr == nr_mount) ≡ false
-  pub setxattr : (nr == nr_setxattr) ≡ false
-  pub openat : (nr == nr_openat) ≡ false
-  pub mknodat : (nr == nr_mknodat) ≡ false
+  pub request_is : (args : List ℕ) (texts : List (List ℕ)) → request (pos nr) args texts ≡ Other (pos nr)
+  pub plan_is : (args : List ℕ) → plan (pos nr) args ≡ []
+  pub base_is : (args : List ℕ) → base_dirfd (pos nr) args ≡ None
+  pub not_openat : (nr == nr_openat) ≡ false
+
+close-is : IsOther nr_close
+unfolding request base_dirfd
+close-is = record { request_is = λ args texts. refl; plan_is = λ args. refl; base_is = λ args. refl; not_openat = refl }
+
+getpid-is : IsOther nr_getpid
+unfolding request base_dirfd
+getpid-is = record { request_is = λ args texts. refl; plan_is = λ args. refl; base_is = λ args. refl; not_openat = refl }
+
+without-row : (nr : ℕ) → row_in table nr ≡ None → IsOther nr
+unfolding request base_dirfd
+without-row nr h =
+    let z = none_is table nr h in
+    record {
+      request_is = λ args texts. rw (h, z.1.1.0, z.1.1.1.0, z.1.1.1.1.0, z.1.1.1.1.1.0, z.1.1.1.1.1.1.0, z.1.1.1.1.1.1.1.0) refl;
+      plan_is = λ args. rw h refl;
+      base_is = λ args. rw h refl;
+      not_openat = z.1.1.1.1.1.1.0;
+    }
 
 pub by_number : (Q : ℕ → Type 0) → Q nr_sysinfo → Q nr_mknod → Q nr_mount → Q nr_setxattr → Q nr_openat → Q nr_mknodat → ((nr : ℕ) → IsOther nr → Q nr) → (nr : ℕ) → Q nr
 by_number Q sysinfo mknod mount setxattr openat mknodat other nr =
-    elim (cases_Bool (nr == nr_sysinfo)) [
-      | inl t ↦ at nr_sysinfo t sysinfo
-      | inr a ↦ elim (cases_Bool (nr == nr_mknod)) [
-        | inl t ↦ at nr_mknod t mknod
-        | inr b ↦ elim (cases_Bool (nr == nr_mount)) [
-          | inl t ↦ at nr_mount t mount
-          | inr c ↦ elim (cases_Bool (nr == nr_setxattr)) [
-            | inl t ↦ at nr_setxattr t setxattr
-            | inr d ↦ elim (cases_Bool (nr == nr_openat)) [
-              | inl t ↦ at nr_openat t openat
-              | inr e ↦ elim (cases_Bool (nr == nr_mknodat)) [
-                | inl t ↦ at nr_mknodat t mknodat
-                | inr f ↦ other nr (record { sysinfo = a; mknod = b; mount = c; setxattr = d; openat = e; mknodat = f })
-              ]
-            ]
-          ]
-        ]
-      ]
-    ]
-  where
-    at : (m : ℕ) → (nr == m) ≡ true → Q m → Q nr
-    at m t q = subst Q (sym (eqb-true nr m t)) q
+    at_row Q table nr (other nr_close close-is, (other nr_getpid getpid-is, (sysinfo, (mknod, (mount, (setxattr, (openat, (mknodat, tt))))))))
+    (λ h. other nr (without-row nr h))

@@ -5,13 +5,13 @@ use Rattle.mediation.proofs.Common.{gives_up, group, holder, if◌then◌else◌
 use Rattle.mediation.proofs.Common.{or_parts, place_or, Policy, refl, Result, Rules, rules_of, Script, session, session_call, skips, Some, sym, System, system_of, true, What, ℕ, ℤ, ended, name_of, after_native}
 use Rattle.mediation.proofs.Common.{◌&&◌, ◌<◌, ◌==◌, ◌^◌, ◌||◌, ◌∙◌, ◌∷◌, ◌≡◌, ◌⊎◌, number_of}
 use Rattle.std.specs.Prelude.{is_some, negsuc, slice_get}
-use Rattle.mediation.proofs.Common.{Acts, base_dirfd, eqb-true, pos, request}
+use Rattle.mediation.proofs.Common.{Acts, base_dirfd, pos, request}
 use Rattle.hist_model.specs.Legal.{Legal}
 use Rattle.hist_model.specs.Decisions.{granted_where}
 use Rattle.hist_model.specs.Requests.{argument, signed_32}
 use Rattle.hist_model.specs.declared.policy.Rule.{Rule}
 use Rattle.hist_model.specs.declared.request.Request.TheVariants.{Mount}
-use Rattle.sys_abi.specs.Calls.{nr_mknod, nr_mknodat, nr_mount, nr_openat, nr_setxattr, nr_sysinfo}
+use Rattle.broker_verdict.proofs.CallNumbers.{by_number, IsOther}
 use Rattle.broker_verdict.proofs.LegalClauses.{keeps, none-some}
 use Rattle.broker_verdict.proofs.LegalGrants.{act-is, Uses, uses}
 use Rattle.broker_verdict.specs.Choices.{decided}
@@ -90,34 +90,14 @@ path-granted None q = refl
 path-granted (Some rule) (Mount source target fstype options via flags shift) = refl
 path-granted (Some rule) q = refl
 
+path-other : (args : List ℕ) (texts : List (List ℕ)) (m : ℕ) → IsOther m → is_relative (path_of (request (pos m) args texts)) ≡ true → (d : ℤ) × (base_dirfd (pos m) args ≡ Some d)
+path-other args texts m o h = absurd (cc (rw (o.request_is args texts) at h))
+
 path-at : (nr : ℕ) (args : List ℕ) (texts : List (List ℕ)) → is_relative (path_of (request (pos nr) args texts)) ≡ true → (d : ℤ) × (base_dirfd (pos nr) args ≡ Some d)
 unfolding request base_dirfd
-path-at nr args texts h =
-    elim (cases_Bool (nr == nr_sysinfo)) [
-      | inl t ↦ absurd (cc (rw (eqb-true nr nr_sysinfo t) at h))
-      | inr a ↦
-          elim (cases_Bool (nr == nr_mknod)) [
-            | inl t ↦ (negsuc 99, rw (eqb-true nr nr_mknod t) refl)
-            | inr b ↦
-                elim (cases_Bool (nr == nr_mount)) [
-                  | inl t ↦ (negsuc 99, rw (eqb-true nr nr_mount t) refl)
-                  | inr c ↦
-                      elim (cases_Bool (nr == nr_setxattr)) [
-                        | inl t ↦ (negsuc 99, rw (eqb-true nr nr_setxattr t) refl)
-                        | inr d ↦
-                            elim (cases_Bool (nr == nr_openat)) [
-                              | inl t ↦ (signed_32 (argument args 0), rw (eqb-true nr nr_openat t) refl)
-                              | inr e ↦
-                                  elim (cases_Bool (nr == nr_mknodat)) [
-                                    | inl t ↦ (signed_32 (argument args 0), rw (eqb-true nr nr_mknodat t) refl)
-                                    | inr f ↦
-                                        absurd (cc (rw (a, b, c, d, e, f) at h))
-                                  ]
-                            ]
-                      ]
-                ]
-          ]
-    ]
+path-at nr args texts = by_number (λ (m : ℕ). is_relative (path_of (request (pos m) args texts)) ≡ true → (d : ℤ) × (base_dirfd (pos m) args ≡ Some d))
+    (λ h. absurd (cc h)) (λ h. (negsuc 99, refl)) (λ h. (negsuc 99, refl)) (λ h. (negsuc 99, refl))
+    (λ h. (signed_32 (argument args 0), refl)) (λ h. (signed_32 (argument args 0), refl)) (path-other args texts) nr
 
 path-dirfd : (o : Option Rule) (nr : ℤ) (args : List ℕ) (texts : List (List ℕ)) → is_relative (path_of (granted_where o (request nr args texts))) ≡ true → (d : ℤ) × (base_dirfd nr args ≡ Some d)
 unfolding request

@@ -21,7 +21,7 @@ use Rattle.mediation.proofs.Hands.{hand, in-hand}
 use Rattle.mediation.proofs.Handles.{own-memory}
 use Rattle.mediation.proofs.Order.{any-number, goods, is-own, ordered, used-two}
 use Rattle.mediation.proofs.Rows.{AtWork, HasCopied, WorkerRow}
-use Rattle.broker_verdict.proofs.CallNumbers.{by_number}
+use Rattle.broker_verdict.proofs.CallNumbers.{by_number, IsOther}
 use Rattle.broker_verdict.proofs.LegalClauses.{keeps, none-some}
 use Rattle.broker_verdict.proofs.LegalReads.{planned}
 use Rattle.broker_verdict.specs.Choices.{decided}
@@ -79,11 +79,14 @@ none [] h = refl
 none (a ∷ more) h = absurd (omega arith)
 
 -- a request names the texts of its call's plan
+texts-other : (args : List ℕ) (texts : List (List ℕ)) (m : ℕ) → IsOther m → length texts ≡ length (plan (pos m) args) → texts_of (request (pos m) args texts) ≡ texts
+texts-other args texts m o l = rw (o.request_is args texts) (none texts (l ∙ ap length (o.plan_is args)))
+
 texts-at : (nr : ℕ) (args : List ℕ) (texts : List (List ℕ)) → length texts ≡ length (plan (pos nr) args) → texts_of (request (pos nr) args texts) ≡ texts
 unfolding request
 texts-at nr args texts = by_number (λ (m : ℕ). length texts ≡ length (plan (pos m) args) → texts_of (request (pos m) args texts) ≡ texts)
     (none texts) (one texts) (four texts) (three texts) (one texts) (one texts)
-    (λ m o l. rw (o.sysinfo, o.mknod, o.mount, o.setxattr, o.openat, o.mknodat) (none texts (rw (o.mknod, o.mknodat, o.openat, o.mount, o.setxattr) at l))) nr
+    (texts-other args texts) nr
 
 texts-of-call : (nr : ℤ) (args : List ℕ) (texts : List (List ℕ)) → length texts ≡ length (plan nr args) → texts_of (request nr args texts) ≡ texts
 unfolding request

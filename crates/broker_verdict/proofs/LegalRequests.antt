@@ -152,13 +152,16 @@ of-mknod d p other m v = rw (int-same (dirfd_or_cwd d), eq-eqb (low_16 m) (low_1
 of-openat : (d : ℤ) (p other : List ℕ) (f : ℕ) → has_numbers (OpenAt d p f) (OpenAt d other f) ≡ true
 of-openat d p other f = rw (int-same d, eq-eqb f f refl) refl
 
+same-other : (args : List ℕ) (texts : List (List ℕ)) (m : ℕ) → IsOther m → has_numbers (request (pos m) args []) (request (pos m) args texts) ≡ true
+same-other args texts m o = rw (o.request_is args [], o.request_is args texts) (int-same (pos m))
+
 same-at : (nr : ℕ) (args : List ℕ) (texts : List (List ℕ)) → has_numbers (request (pos nr) args []) (request (pos nr) args texts) ≡ true
 unfolding request
 same-at nr args texts = by_number (λ (m : ℕ). has_numbers (request (pos m) args []) (request (pos m) args texts) ≡ true)
     (eq-eqb _ _ refl) (of-mknod None (text_at [] 0) (text_at texts 0) (low_16 (argument args 1)) (argument args 2)) (eq-eqb _ _ refl) (eq-eqb _ _ refl)
     (of-openat (signed_32 (argument args 0)) (text_at [] 0) (text_at texts 0) (low_32 (argument args 2)))
     (of-mknod (Some (signed_32 (argument args 0))) (text_at [] 0) (text_at texts 0) (low_16 (argument args 2)) (argument args 3))
-    (λ m o. rw (o.sysinfo, o.mknod, o.mount, o.setxattr, o.openat, o.mknodat) (int-same (pos m))) nr
+    (same-other args texts) nr
 
 same-numbers : (nr : ℤ) (args : List ℕ) (texts : List (List ℕ)) → has_numbers (request nr args []) (request nr args texts) ≡ true
 unfolding request
@@ -166,16 +169,17 @@ same-numbers (pos nr) args texts = same-at nr args texts
 same-numbers (negsuc nr) args texts = int-same (negsuc nr)
 
 -- a call of openat has its flag O_CLOEXEC whatever its path is
+opens-other : (args : List ℕ) (texts : List (List ℕ)) (m : ℕ) → IsOther m → call_of_request (request (pos m) args texts) ≡ pos nr_openat
+    → opens_with (request (pos m) args []) (cloexec_of (request (pos m) args texts)) ≡ true
+opens-other args texts m o h =
+    let q : pos m ≡ pos nr_openat = rw (o.request_is args texts) at h in
+    let n : m ≡ nr_openat = cc in
+    absurd (cc (o.not_openat, eq-eqb m nr_openat n))
+
 opens-at : (nr : ℕ) (args : List ℕ) (texts : List (List ℕ)) → call_of_request (request (pos nr) args texts) ≡ pos nr_openat → opens_with (request (pos nr) args []) (cloexec_of (request (pos nr) args texts)) ≡ true
 unfolding request
 opens-at nr args texts = by_number (λ (m : ℕ). call_of_request (request (pos m) args texts) ≡ pos nr_openat → opens_with (request (pos m) args []) (cloexec_of (request (pos m) args texts)) ≡ true)
-    (λ h. cc) (λ h. cc) (λ h. cc) (λ h. cc) (λ h. eq-eqb _ _ refl) (λ h. cc) (λ m o h. absurd (never m args texts o h)) nr
-  where
-    never : (m : ℕ) (args : List ℕ) (texts : List (List ℕ)) → IsOther m → call_of_request (request (pos m) args texts) ≡ pos nr_openat → ⊥
-    never m args texts o h =
-        let q : pos m ≡ pos nr_openat = rw (o.sysinfo, o.mknod, o.mount, o.setxattr, o.openat, o.mknodat) at h in
-        let n : m ≡ nr_openat = cc in
-        cc (o.openat, eq-eqb m nr_openat n)
+    (λ h. cc) (λ h. cc) (λ h. cc) (λ h. cc) (λ h. eq-eqb _ _ refl) (λ h. cc) (opens-other args texts) nr
 
 opens-numbered : (nr : ℤ) (args : List ℕ) (texts : List (List ℕ)) → call_of_request (request nr args texts) ≡ pos nr_openat → opens_with (request nr args []) (cloexec_of (request nr args texts)) ≡ true
 unfolding request

@@ -22,5 +22,4 @@ pub mod LegalRests
 pub mod LegalRequests
 pub mod CallNumbers
 pub mod LegalTrusted
-pub mod KernelAnswered
 pub mod BaseKept

@@ -1,5 +1,4 @@
 pub mod Seats
-pub mod KernelAnswers
 pub mod SeatCopies
 pub mod Choices
 pub mod Effects

@@ -8,7 +8,6 @@ ghost use Rattle.hist_model.specs.Legal.{Legal, OfKernel};
 ghost use Rattle.hist_model.specs.PolicyRules.{IsPolicy};
 ghost use Rattle.hist_model.specs.ScriptRules.{IsScript};
 ghost use Rattle.broker_verdict.specs.Brokers.{AreTurns, Turn, asked};
-ghost use Rattle.broker_verdict.specs.KernelAnswers.{KernelAnswers};
 ghost use Rattle.broker_verdict.specs.Sentences.{Sentences};
 ghost use Rattle.broker_verdict.specs.Trusted.{Trusted, first_fault};
 ghost use Rattle.broker_verdict.specs.Verdicts.{Tells};
@@ -42,10 +41,4 @@ pub fn trusted_is_lawful()
 /// on one copy of its arguments that they found valid, and answer what the policy says of it.
 pub fn legal_is_trusted()
     ensures { (P : Policy) (S : Script) (K : List Event) → IsPolicy (record { rules = P.rules }) → IsScript S → Legal P S K → Trusted P S K }
-{}
-
-/// The kernel answers ID_VALID, SEND and ADDFD as its tables say, a take tells what came of its request, and a call returns what was
-/// accepted for it.
-pub fn kernel_answers()
-    ensures { (S : Script) (K : List Event) → OfKernel S K → KernelAnswers S K }
 {}

@@ -18,7 +18,6 @@ struct Numbers {
     mode: Option<u64>,
     device: Option<u64>,
     flags: Option<u64>,
-    address: Option<u64>,
 }
 
 /// No numbers but the call's own.
@@ -29,7 +28,6 @@ fn no_numbers(call: i32) -> Numbers {
         mode: None,
         device: None,
         flags: None,
-        address: None,
     }
 }
 
@@ -46,7 +44,6 @@ fn numbers_of(request: &Request) -> Numbers {
             mode: Some(u64::from(*mode)),
             device: Some(*dev % 0x1_0000_0000),
             flags: None,
-            address: None,
         },
         Request::Mount { flags, .. } => Numbers {
             flags: Some(*flags),
@@ -60,10 +57,7 @@ fn numbers_of(request: &Request) -> Numbers {
             flags: Some(u64::from(flags & O_CLOEXEC)),
             ..no_numbers(request.call())
         },
-        Request::Sysinfo { addr } => Numbers {
-            address: Some(*addr),
-            ..no_numbers(SYSINFO)
-        },
+        Request::Sysinfo { .. } => no_numbers(SYSINFO),
         Request::Other { nr } => no_numbers(*nr),
     }
 }
@@ -72,10 +66,7 @@ fn numbers_of(request: &Request) -> Numbers {
 fn numbers_done(what: &What) -> Option<Numbers> {
     match what {
         What::Act { request, .. } => Some(numbers_of(request.get())),
-        What::Plant { addr, .. } => Some(Numbers {
-            address: Some(*addr),
-            ..no_numbers(SYSINFO)
-        }),
+        What::Plant { .. } => Some(no_numbers(SYSINFO)),
         What::AddfdPut { asked, .. } => Some(Numbers {
             flags: Some(u64::from(asked.newfd_flags & O_CLOEXEC)),
             ..no_numbers(OPENAT)

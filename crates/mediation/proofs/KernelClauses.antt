@@ -15,6 +15,7 @@ use Rattle.hist_model.specs.Mediated.{fetches_of, IsEmptyReceive}
 use Rattle.hist_model.specs.Steps.{IsOfKernel}
 use Rattle.mediation.specs.Kernels.{KernelKeeps}
 use Rattle.mediation.proofs.KernelRows.{KernelRow, TaskRow, by-few-kernel-steps, each-kernel, each-any}
+use Rattle.mediation.proofs.KernelAnswered.{checks-waiting, puts-for-waiting, returns-as-answered, sends-to-waiting, stays-in-call, takes-its-request}
 use Rattle.mediation.proofs.KernelTasks.{pids_differ, same-name, waits-here, waits-in-call}
 use Rattle.mediation.proofs.KernelCalls.{answered_once, call_ids, fetching, named-fetched, once-more, receives-are-for, refetch}
 use Rattle.mediation.proofs.Spent.{act-spent, answered-so, outcome-other, plant-spent, written-other}
@@ -169,6 +170,12 @@ module _ (S : Script) where
         installs_alone = each-any (InstallsAlone S) installs_alone K;
         fails_alone = each-any (FailsAlone S) fails_alone K;
         arrives = arrives T K history room;
+        checks_waiting = checks-waiting S K history room;
+        sends_to_waiting = sends-to-waiting S K history room;
+        puts_for_waiting = puts-for-waiting S K history room;
+        takes_its_request = takes-its-request S K history room;
+        returns_as_answered = returns-as-answered S K history room;
+        stays = stays-in-call S K history room;
         fetches_oldest = fetches_oldest T K history room;
         finds_none = finds_none T K history room;
         receives = receives-are-for T K history room;

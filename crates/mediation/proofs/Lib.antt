@@ -13,6 +13,7 @@ pub mod Replies
 pub mod Causes
 pub mod Spent
 pub mod Unprivileged
+pub mod KernelAnswered
 pub mod KernelClauses
 pub mod Effects
 pub mod Told

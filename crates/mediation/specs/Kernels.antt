@@ -9,6 +9,7 @@ use Rattle.hist_model.specs.Mediated.{SpentExactly}
 use Rattle.hist_model.specs.declared.event.Event.{Event}
 use Rattle.hist_model.specs.declared.script.Script.{Script}
 use Rattle.mediation.specs.Facts.{CallIdsDiffer}
+use Rattle.mediation.specs.KernelAnswers.{ChecksWaiting, PutsForWaiting, ReturnsAsAnswered, SendsToWaiting, StaysInCall, TakesItsRequest}
 
 pub record KernelKeeps (S : Script) (K : List Event) : Type 0 where
   -- two calls have different ids, and two tasks that are not reaped different PIDs
@@ -21,6 +22,14 @@ pub record KernelKeeps (S : Script) (K : List Event) : Type 0 where
   pub installs_alone : Each (InstallsAlone S) K
   pub fails_alone : Each (FailsAlone S) K
   pub arrives : Each Arrives K
+  -- an id is valid, an answer and a descriptor are accepted, and a take and a call return, as the calls that wait say
+  pub checks_waiting : Each ChecksWaiting K
+  pub sends_to_waiting : Each SendsToWaiting K
+  pub puts_for_waiting : Each (PutsForWaiting S) K
+  pub takes_its_request : Each TakesItsRequest K
+  pub returns_as_answered : Each ReturnsAsAnswered K
+  -- and while a call waits, its task stays in it
+  pub stays : Each StaysInCall K
   -- a worker is told what is so of what it receives, opens, reads and does
   pub fetches_oldest : Each FetchesOldest K
   pub finds_none : Each FindsNone K

@@ -1,5 +1,6 @@
 pub mod Journals
 pub mod Facts
+pub mod KernelAnswers
 pub mod Kernels
 pub mod Refused
 pub mod Unmediated

@@ -13,7 +13,8 @@ ghost use Rattle.mediation.specs.Facts.{CallIdsDiffer, NamesDiffer};
 ghost use Rattle.mediation.specs.Kernels.{KernelKeeps};
 
 /// Whatever a broker does, the kernel gives each notification to one receive, answers it at most once, installs a descriptor
-/// where its request says and nowhere else, tells a worker what is so, and lets nothing past the broker that the filters don't.
+/// where its request says and nowhere else, answers ID_VALID, SEND and ADDFD as the calls that wait say, tells a worker what is
+/// so, and lets nothing past the broker that the filters don't.
 pub fn kernel_keeps()
     ensures { (S : Script) (K : List Event) → OfKernel S K → KernelKeeps S K }
 {}

@@ -1,15 +1,15 @@
--- What KernelKeeps lacks: what the kernel answers ID_VALID, SEND and ADDFD, what a take tells, and what a call returns.
-use Rattle.std.specs.Prelude.{◌≡◌, ℕ, true, not, if◌then◌else◌, List, Some, Result, Err}
+-- What the kernel answers: ID_VALID, SEND, ADDFD, and a taken installation; what a call returns, and what a task does while it waits.
+use Rattle.std.specs.Prelude.{◌≡◌, ℕ, Bool, true, false, not, if◌then◌else◌, List, Some, Result, Err}
 use Rattle.hist_model.specs.Calls.{named, settled}
 use Rattle.hist_model.specs.Legal.{system_of}
 use Rattle.hist_model.specs.Look.{Name}
-use Rattle.hist_model.specs.Mediated.{Each}
 use Rattle.hist_model.specs.Signals.{call_of}
 use Rattle.hist_model.specs.Steps.{check_answer, put_answer, reply, request_listed, request_of, install_at, send_answer, take_step}
 use Rattle.hist_model.specs.declared.event.Actor.TheVariants.{Task, Worker}
 use Rattle.hist_model.specs.declared.event.Back.{Back}
 use Rattle.hist_model.specs.declared.event.Event.{Event}
-use Rattle.hist_model.specs.declared.event.What.TheVariants.{AddfdPut, AddfdTake, Check, Resume, Send}
+use Rattle.hist_model.specs.declared.event.What.{What}
+use Rattle.hist_model.specs.declared.event.What.TheVariants.{AddfdPut, AddfdTake, Check, Deliver, Install, Resume, Send, Skip}
 use Rattle.hist_model.specs.declared.script.Script.{Script}
 use Rattle.sys_abi.specs.Errnos.{ebadf}
 use Rattle.sys_abi.specs.declared.wire.Addfd.{Addfd}
@@ -43,10 +43,14 @@ pub record ReturnsReply (K : List Event) (n : Name) (b : Back) : Type 0 where
 abbrev pub ReturnsAsAnswered : List Event → Event → Type 0
 ReturnsAsAnswered K e = (n : Name) (b : Back) → e.who ≡ Task n → e.what ≡ Resume b → ReturnsReply K n b
 
--- all of them
-pub record KernelAnswers (S : Script) (K : List Event) : Type 0 where
-  pub checks_waiting : Each ChecksWaiting K
-  pub sends_to_waiting : Each SendsToWaiting K
-  pub puts_for_waiting : Each (PutsForWaiting S) K
-  pub takes_its_request : Each TakesItsRequest K
-  pub returns_as_answered : Each ReturnsAsAnswered K
+-- what a task may do while its call waits
+abbrev pub is_step_of_waiting : What → Bool
+is_step_of_waiting (Install answer) = true
+is_step_of_waiting (Resume back) = true
+is_step_of_waiting (Deliver sig effect) = true
+is_step_of_waiting Skip = true
+is_step_of_waiting _ = false
+
+-- while a call waits, its task stays in it
+abbrev pub StaysInCall : List Event → Event → Type 0
+StaysInCall K e = (n : Name) (c : ℕ) → e.who ≡ Task n → call_of K n ≡ Some c → is_step_of_waiting e.what ≡ true
