@@ -8,14 +8,13 @@ use Rattle.hist_model.specs.Steps.{IsLegal}
 use Rattle.hist_model.specs.Systems.{System}
 use Rattle.hist_model.specs.declared.event.Event.{Event}
 use Rattle.broker_machine.specs.Workers.{Allows}
-use Rattle.broker_machine.proofs.Held.{opens-first, plants-there, asks-free, asks-known, takes-asked}
+use Rattle.broker_machine.proofs.Held.{plants-there, asks-free, asks-known, takes-asked}
 
 -- the order of deeds allows what is due
 pub allows : (S : System) (R : Rules) (K : List Event) (w : ℕ) → IsLegal S R K → length K < 2 ^ 64 → Allows K w (shown (deed R (session K w)))
 allows S R K w legal few = by (deed R (session K w)) refl
   where
     by : (d : Deed) → deed R (session K w) ≡ d → Allows K w (shown d)
-    by (Deed.OpenMem pid) h = opens-first S R K w pid legal few h
     by (Deed.Plant addr bytes cap) h = plants-there S R K w addr bytes cap legal few h
     by (Deed.AddfdPut asked) h = (asks-free S R K w asked legal few h, asks-known S R K w asked h)
     by Deed.AddfdTake h = takes-asked S R K w legal few h

@@ -1,12 +1,12 @@
--- What a worker holds when a deed of its session is due: what it opens isn't open yet, what it uses is, and what it takes was asked for.
+-- What a worker holds when a deed of its session is due: what it uses is open, and what it takes was asked for.
 -- By induction on a legal history, and since a session that asked for a descriptor goes on with nothing but the take.
-use Rattle.mediation.proofs.Common.{[], Addfd, AddfdPut, addfd_of, and_parts, any_of, arith, cases_Bool, Deed, deed, deed_step, Event, false, first_some, inl, inr, is_worker, IsLegal, joined, length, List}
-use Rattle.mediation.proofs.Common.{mem, mem_after, None, not, not-true, Notif, Ok, opens, Option, put_in, refl, request_after, request_of, Rules, session, session_call, skips}
+use Rattle.mediation.proofs.Common.{[], Addfd, AddfdPut, addfd_of, and_parts, arith, cases_Bool, Deed, deed, deed_step, Event, first_some, inl, inr, is_worker, IsLegal, joined, length, List}
+use Rattle.mediation.proofs.Common.{mem, None, not, not-true, Notif, Ok, Option, put_in, refl, request_after, request_of, Rules, session, session_call, skips}
 use Rattle.mediation.proofs.Common.{Some, step, System, take_in, true, What, Worker, worker_step, ℕ, ◌&&◌, ◌<◌, ◌^◌, ◌∷◌, ◌≡◌}
 use Rattle.hist_model.specs.declared.policy.Cap.{Cap}
 use Rattle.listener.specs.Puts.{is_known}
 use Rattle.mediation.proofs.Rows.{AtWork, WorkerRow, step-row, by-few-steps}
-use Rattle.mediation.proofs.Hands.{Hand, hand, idle-of, in-hand, worker-row}
+use Rattle.mediation.proofs.Hands.{hand, in-hand, worker-row}
 use Rattle.mediation.proofs.Order.{any-number, Checked, Follows, IsInjection, IsOwn, is-own, ordered, put-fixed, take-after_put, Used}
 use Rattle.mediation.proofs.Handles.{steady}
 
@@ -32,34 +32,25 @@ asks-at_work : (R : Rules) (own : List What) → IsOwn R own → Asks own → (n
 asks-at_work R [] i asks = cc
 asks-at_work R (a ∷ own) i asks = asks-more R own a i (asks-at_work R own i.1) asks
 
--- ---- what a worker has open and has asked for, by its session's steps
+-- ---- what a worker has asked for, by its session's steps
 
 -- a request is there just while the session asks
 abbrev IsAsked : List What → Option ℕ → Type 0
 IsAsked own (Some r) = Asks own
 IsAsked own None = Asks own → ⊥
 
--- what is open and asked for, where the session has these steps
-record Held (own : List What) (memory request : Option ℕ) : Type 0 where
-  -- a session that opened no memory has none
-  unopened : any_of opens own ≡ false → memory ≡ None
-  asked : IsAsked own request
-
 module _ (S : System) (R : Rules) where
-  held-more : (K : List Event) (w : ℕ) (what : What) → WorkerRow S R K w what → skips what ≡ false → IsOwn R (session K w) → Hand K w (session_call K w)
-      → Held (session K w) (mem K w) (request_of K w) → Held (joined what (session K w)) (mem_after K what (mem K w)) (request_after (length K) what (request_of K w))
-  held-more K w what r s own h ih = record {
-    unopened = λ o. let idle = idle-of K w (session_call K w) h in let u = ih.unopened in grind arith;
-    asked = let a = ih.asked in let at_work = asks-at_work R (session K w) own in let later = take-after_put R (session K w) own in grind arith;
-  }
+  held-more : (K : List Event) (w : ℕ) (what : What) → WorkerRow S R K w what → skips what ≡ false → IsOwn R (session K w)
+      → IsAsked (session K w) (request_of K w) → IsAsked (joined what (session K w)) (request_after (length K) what (request_of K w))
+  held-more K w what r s own a = let at_work = asks-at_work R (session K w) own in let later = take-after_put R (session K w) own in grind arith
 
-  held : (K : List Event) → IsLegal S R K → length K < 2 ^ 64 → (w : ℕ) → Held (session K w) (mem K w) (request_of K w)
-  unfolding session mem request_of
-  held = by-few-steps S R (λ K. (w : ℕ) → Held (session K w) (mem K w) (request_of K w)) (λ w. record { unopened = λ o. refl; asked = λ a. cc }) (λ K e legal room r ih w.
+  held : (K : List Event) → IsLegal S R K → length K < 2 ^ 64 → (w : ℕ) → IsAsked (session K w) (request_of K w)
+  unfolding session request_of
+  held = by-few-steps S R (λ K. (w : ℕ) → IsAsked (session K w) (request_of K w)) (λ w a. cc) (λ K e legal room r ih w.
       elim (cases_Bool (is_worker e.who w && not (skips e.what))) [
         | inl q ↦
             let p = and_parts (is_worker e.who w) (not (skips e.what)) q in
-            rw (q, p.0) (held-more K w e.what (worker-row S R K e.who e.what w r p.0) (not-true (skips e.what) p.1) (is-own S R K legal w) (hand S R K legal room w) (ih w))
+            rw (q, p.0) (held-more K w e.what (worker-row S R K e.who e.what w r p.0) (not-true (skips e.what) p.1) (is-own S R K legal w) (ih w))
         | inr q ↦ rw q (grind arith)
       ])
 
@@ -76,10 +67,6 @@ module _ (S : System) (R : Rules) (K : List Event) (w : ℕ) where
   unfolding step worker_step
   due d h = rw h at (step-row S R K (Worker w) refl)
 
-  -- a memory is opened where none is open
-  pub opens-first : (p : ℕ) → IsLegal S R K → length K < 2 ^ 64 → deed R (session K w) ≡ Deed.OpenMem p → mem K w ≡ None
-  opens-first p legal room h = (held S R K legal room w).unopened (due (Deed.OpenMem p) h).0.2
-
   -- bytes are planted where a memory is open
   pub plants-there : (a : ℕ) (bytes : List ℕ) (limit : Option Cap) → IsLegal S R K → length K < 2 ^ 64 → deed R (session K w) ≡ Deed.Plant a bytes limit → mem K w ≡ None → ⊥
   plants-there a bytes limit legal room h none =
@@ -90,7 +77,7 @@ module _ (S : System) (R : Rules) (K : List Event) (w : ℕ) where
 
   -- a descriptor is asked for where nothing is asked for
   pub asks-free : (a : Addfd) → IsLegal S R K → length K < 2 ^ 64 → deed R (session K w) ≡ Deed.AddfdPut a → request_of K w ≡ None
-  asks-free a legal room h = let t = (due (Deed.AddfdPut a) h).0 in let k = (held S R K legal room w).asked in grind arith
+  asks-free a legal room h = let t = (due (Deed.AddfdPut a) h).0 in let k = held S R K legal room w in grind arith
 
   -- with known flags
   pub asks-known : (a : Addfd) → deed R (session K w) ≡ Deed.AddfdPut a → is_known a ≡ true
@@ -98,4 +85,4 @@ module _ (S : System) (R : Rules) (K : List Event) (w : ℕ) where
 
   -- an answer is taken where a descriptor was asked for
   pub takes-asked : IsLegal S R K → length K < 2 ^ 64 → deed R (session K w) ≡ Deed.AddfdTake → request_of K w ≡ None → ⊥
-  takes-asked legal room h none = let k = (held S R K legal room w).asked in let t = (rw none at (due Deed.AddfdTake h)).0 in grind arith
+  takes-asked legal room h none = let k = held S R K legal room w in let t = (rw none at (due Deed.AddfdTake h)).0 in grind arith

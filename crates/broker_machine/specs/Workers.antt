@@ -17,7 +17,7 @@ use Rattle.broker_core.specs.Answers.{shown}
 use Rattle.broker_core.specs.Deeds.{due}
 use Rattle.broker_core.specs.Remembered.{IsReady, Remembers}
 use Rattle.broker_core.specs.declared.deed.Deed.{Deed}
-use Rattle.broker_core.specs.declared.deed.Deed.TheVariants.{AddfdPut, AddfdTake, OpenMem, Plant}
+use Rattle.broker_core.specs.declared.deed.Deed.TheVariants.{AddfdPut, AddfdTake, Plant}
 use Rattle.broker_core.specs.declared.worker.Worker.{Worker}
 use Rattle.model_kernel.specs.Kernels.{DoesDeed, IsAfter, past, system}
 use Rattle.model_kernel.specs.Ready.{IsSame}
@@ -35,9 +35,8 @@ abbrev pub OthersRemember : Policy → Figures → List Event → ℕ → List W
 OthersRemember P F K n workers = (w : ℕ) (d : Worker) → w < length workers → (w ≡ n → ⊥)
     → Remembers P (session K w) (get_or workers w d) × ((get_or workers w d).figures ≡ F)
 
--- the worker opens no second memory, plants into one that it has open, has no request when it puts one, and has the one that it takes
+-- the worker plants into a memory that it has open, has no request when it puts one, and has the one that it takes
 abbrev pub Allows : List Event → ℕ → Deed → Type 0
-Allows K w (OpenMem pid) = mem K w ≡ None
 Allows K w (Plant addr cap) = mem K w ≡ None → ⊥
 Allows K w (AddfdPut asked) = (request_of K w ≡ None) × (is_known asked ≡ true)
 Allows K w AddfdTake = request_of K w ≡ None → ⊥

@@ -43,7 +43,7 @@ some-there (Some n) h q = cc
 -- what is tested and what is known of each worker allow what it does next
 pub allowed : (S : System) (R : Rules) (K : List Event) (w : ℕ) (d : Deed) → deed R (session K w) ≡ d → is_allowed K w (shown d) ≡ true → Allows K w (shown d)
 allowed S R K w deeds.Recv q h = tt
-allowed S R K w (deeds.OpenMem pid) q h = none-there (mem K w) h
+allowed S R K w (deeds.OpenMem pid) q h = tt
 allowed S R K w (deeds.OpenBase pid dirfd) q h = tt
 allowed S R K w (deeds.Check id) q h = tt
 allowed S R K w (deeds.Read addr len) q h = tt

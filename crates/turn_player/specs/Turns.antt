@@ -2,7 +2,7 @@
 use Rattle.std.specs.Prelude.{◌≡◌, ℕ, zero, suc, ◌≤◌, Bool, true, not, if◌then◌else◌, List, [], ◌∷◌, is_some}
 use Rattle.broker_core.specs.Answers.{shown}
 use Rattle.broker_core.specs.declared.deed.Deed.{Deed}
-use Rattle.broker_core.specs.declared.deed.Deed.TheVariants.{AddfdPut, AddfdTake, OpenMem, Plant}
+use Rattle.broker_core.specs.declared.deed.Deed.TheVariants.{AddfdPut, AddfdTake, Plant}
 use Rattle.hist_model.specs.Legal.{rules_of, started, system_of}
 use Rattle.hist_model.specs.Look.{Name, ev}
 use Rattle.hist_model.specs.Names.{is_task_name}
@@ -36,7 +36,6 @@ next_deed P S w K = shown (deed (rules_of P S.figures) (session K w))
 
 -- what the worker has open, and whether it has a request for a descriptor, allow this; in a legal history they always do
 abbrev pub is_allowed : List Event → ℕ → Deed → Bool
-is_allowed K w (OpenMem pid) = not (is_some (mem K w))
 is_allowed K w (Plant addr cap) = is_some (mem K w)
 is_allowed K w (AddfdPut want) = not (is_some (request_of K w))
 is_allowed K w AddfdTake = is_some (request_of K w)

@@ -39,11 +39,11 @@ fn is_allowed(kernel: &Kernel, number: u8, next: &Deed) -> bool
     ensures { result ≡ is_allowed (past kernel.now) number next.now }
 {
     match next {
-        Deed::OpenMem { .. } => !kernel.holds_mem(number),
         Deed::Plant { .. } => kernel.holds_mem(number),
         Deed::AddfdPut(_) => !kernel.has_request(number),
         Deed::AddfdTake => kernel.has_request(number),
         Deed::Recv
+        | Deed::OpenMem { .. }
         | Deed::OpenBase { .. }
         | Deed::Check { .. }
         | Deed::Read { .. }
