@@ -362,6 +362,7 @@ token-shown (kinds.Bytes structure) (Bare bytes) = decoding-shown (decode_sized 
 token-shown kinds.Task (Bare bytes) = unless-shown _ reason.BadNumber refl
 token-shown kinds.Via (Bare bytes) = unless-shown _ reason.UnknownName refl
 token-shown kinds.Shift (Bare bytes) = unless-shown _ reason.UnknownName refl
+token-shown kinds.Follow (Bare bytes) = unless-shown _ reason.UnknownName refl
 token-shown (kinds.Text zeros) (Bare bytes) = refl
 token-shown (kinds.Text zeros) (Quoted bytes) = unless-shown _ reason.OutOfRange refl
 token-shown kind (Quoted bytes) = refl

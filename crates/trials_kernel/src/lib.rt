@@ -8,8 +8,8 @@
 //! (`refused_ledgers`).
 //!
 //! How many histories a script has (`explorations`) is found as well by a program that knows only the reports of plays
-//! (`tools/explore-slowly`), from which the expected numbers are. Those of histories that are too many to go through one by one
-//! are from a program in Python that joins them by states over the kernel of `tools/step-slowly`. There is no code but tests:
+//! (`tools/references/reference-explore`), from which the expected numbers are. Those of histories that are too many to go through one by one
+//! are from a program in Python that joins them by states over the kernel of `tools/references/reference-step`. There is no code but tests:
 //! the models stand in `model_kernel`, `handover`, `worker_ledger` and `explorer`.
 //!
 //! Below stand the kernel (`model_kernel`) with the structures (`sys_abi`, `listener`), the replacement (`handover`) with the
