@@ -1,0 +1,1 @@
+"""What the gate runs, and longer trials of the same kinds."""

@@ -1,0 +1,71 @@
+"""How a check counts what it tries, and how it ends."""
+import os
+import sys
+from typing import Iterable, Optional, Tuple, Union
+
+from tools.commands.command_line.arguments import ToolParser
+from tools.commands.command_line.checkout import PROVED
+
+# what is wrong with a trial: nothing, a text, or several of them
+Wrong = Union[None, str, Iterable[str]]
+
+
+def whole_path(path: str) -> str:
+    return os.path.abspath(path)
+
+
+class Tally:
+    """What a check of this name has tried. What is wrong is printed at once."""
+
+    def __init__(self, name: str):
+        self.name, self.passed, self.failed = name, 0, 0
+
+    def say(self, text: str) -> None:
+        print(f"{self.name}: {text}", flush=True)
+
+    def note(self, what: str, wrong: Wrong) -> None:
+        """Counts a trial. A text that begins with a newline stands below its name."""
+        texts = [] if wrong is None else [wrong] if isinstance(wrong, str) else list(wrong)
+        texts = [it for it in texts if it]
+        self.passed, self.failed = self.passed + (not texts), self.failed + bool(texts)
+        for text in texts:
+            self.say(f"{what}:{'' if text.startswith(chr(10)) else ' '}{text}")
+
+    def note_all(self, tried: Iterable[Tuple[str, Wrong]]) -> "Tally":
+        for what, wrong in tried:
+            self.note(what, wrong)
+        return self
+
+    def ended(self) -> bool:
+        """Prints the last line, and answers whether a trial failed."""
+        self.say(f"{self.passed} passed, {self.failed} failed")
+        return self.failed > 0
+
+
+class TrialParser(ToolParser):
+    """The parser of a check that draws what it tries, or runs the program that was built."""
+
+    def add_draws(self, count: int, name: str = "count", seed: int = 1) -> "TrialParser":
+        """How many are drawn, and with which numbers."""
+        self.add_argument(f"--{name}", type=int, default=count, help="how many are drawn (%(default)s)")
+        self.add_argument("--seed", type=int, default=seed, help="seed for drawing them (%(default)s)")
+        self.add_argument("--first", type=int, default=0, help="the number of the first one (%(default)s)")
+        return self
+
+    def add_limits(self, seconds: float, jobs: Optional[int] = 1) -> "TrialParser":
+        """How long a run may take, and how many run at once."""
+        self.add_argument("--seconds", type=float, default=seconds, help="how long a run may take (%(default)s)")
+        self.add_argument("--jobs", type=int, default=jobs or os.cpu_count() or 1, help="how many run at once (%(default)s)")
+        return self
+
+    def add_built(self) -> "TrialParser":
+        """The program that was proved, or another one."""
+        self.add_argument("--program", type=whole_path, default=PROVED, help="the program that is tried, in place of the proved one")
+        return self
+
+    def with_program(self):
+        """The words. A program that isn't there ends the process."""
+        asked = self.parse_args()
+        if not os.access(asked.program, os.X_OK):
+            sys.exit(f"{self.prog}: {asked.program} isn't there; ./broker --prove builds it")
+        return asked

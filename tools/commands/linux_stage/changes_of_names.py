@@ -1,0 +1,75 @@
+"""Tries the names of known differences, without Linux: of each what it answered once, and answers that mustn't get the name.
+
+`wrong_answers.json` has for each name a script, one of its steps, and the two answers that differ. These have to get the name. They mustn't, if Linux's
+answer is the wrong one, if the journal's line is changed, or in the script without the cause. Some names only probes show.
+"""
+import json
+import sys
+from pathlib import Path
+from typing import Iterator
+
+from tools.commands.linux_stage import differences, known, probes, scenes
+from tools.commands.linux_stage.folders import TOP
+from tools.commands.linux_stage.known import Place
+
+FILE = Path(__file__).resolve().parent / "wrong_answers.json"
+ADDRESS = 0x60001033  # any that isn't 0
+
+
+def step_of(policy: bytes, script: bytes, event: str):
+    """The step of that kind, the N-th of them if a number stands behind it; None if there are fewer."""
+    kind, _, count = event.partition(" ")
+    found = [step for step in scenes.steps(policy, script) if step.line.split(" ")[2] == kind]
+    return found[int(count or 1) - 1] if len(found) >= int(count or 1) else None
+
+
+def name_of(row: dict, step: scenes.Step, linux: str, line: str) -> "str | None":
+    """The name that the row's difference gets at a step, of these answers."""
+    place = Place(ADDRESS, as_init=True, is_init=row["name"].startswith("init-"), is_orphan=row["name"] == "init-reaps-orphans")
+    found = known.find(line, row["what"], linux, row["here"], step, place)
+    return found and found.name
+
+
+def faults_of(row: dict) -> Iterator[str]:
+    """What is wrong with the name of a row."""
+    folder = TOP / row["case"]
+    policy, script = (folder / "policy.json").read_bytes(), (folder / "script.txt").read_bytes()
+    step = step_of(policy, script, row["event"])
+    if name_of(row, step, row["linux"], step.line) != row["name"]:
+        yield f"Linux {row['linux']} and here {row['here']} don't get the name"
+    if name_of(row, step, row["wrong"], step.line):
+        yield f"Linux {row['wrong']} gets a name"
+    if name_of(row, step, row["linux"], f"{step.line} EIO"):
+        yield "a changed line of the journal gets a name"
+    if "without" in row:
+        old, new = (text.encode() for text in row["without"])
+        other = step_of(policy, script.replace(old, new), row["event"])
+        if old not in script or other and name_of(row, other, row["linux"], other.line) == row["name"]:
+            yield f"without {row['without'][0]!r} it gets the name"
+
+
+def faults_of_probe(row: dict) -> Iterator[str]:
+    """What is wrong with the name of a row that only probes show."""
+    probe = probes.Probe("", row["probe"], row["linux"], row["here"], row["name"], row["linux"])
+    if probes.name_of(probe) != row["name"]:
+        yield f"{row['linux']} doesn't get the name"
+    if probes.name_of(probe._replace(linux=row["wrong"])):
+        yield f"{row['wrong']} gets the name"
+
+
+def run() -> int:
+    """Prints what was missed, and gives the exit status."""
+    if not (TOP / "cases").is_dir():
+        print("on-linux: it needs the cases of a checkout", file=sys.stderr)
+        return 2
+    rows, found = json.loads(FILE.read_text()), []
+    tried = {row["name"] for row in rows}
+    found += [f"{name}: no wrong answer, and no reason" for name in sorted(differences.names() - tried)]
+    found += [f"{name}: no such difference" for name in sorted(tried - differences.names())]
+    for row in rows:
+        faults = [] if "none" in row else faults_of_probe(row) if "probe" in row else faults_of(row)
+        found += [f"{row['name']}: {fault}" for fault in faults]
+    print("".join(f"on-linux: {text}\n" for text in found), end="")
+    none = sum("none" in row for row in rows)
+    print(f"on-linux: {len(tried)} names: {len(tried) - none} with wrong answers, {none} that no comparison gives; {len(found)} faults")
+    return 1 if found else 0

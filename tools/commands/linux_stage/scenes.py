@@ -1,0 +1,296 @@
+"""The facts of a script's steps by which a difference gets its name.
+
+The written kernel in Python (tools/references/stepping) plays the script, and each step is noted with these facts. So they need no Linux, and don't come from the
+journal that is compared.
+"""
+from __future__ import annotations
+
+from dataclasses import dataclass, field, replace
+from typing import TYPE_CHECKING, Any, Optional, Set, Tuple
+
+from tools.commands.linux_stage.attributes import MOST_OF_A_VALUE
+from tools.references.stepping import policies, scripts
+from tools.references.stepping.facts import CALL_NAMES, Addfd, Fail, error_text
+from tools.references.stepping.kernel import SYSINFO_SIZE, Kernel
+from tools.references.stepping.plays import played
+from tools.references.stepping.reports import line_of
+from tools.references.stepping.rules import Mknod, Mount, base_of, plan
+from tools.references.stepping.sessions import Session
+from tools.references.stepping.trees import MOST_LINKS, Tree, Walk, parts_of
+
+if TYPE_CHECKING:
+    from tools.references.stepping.memory import Group
+
+READ_ONLY = 1  # of the flags of a mount
+PATHS = {"mknod": 0, "mknodat": 0, "openat": 0, "mount": 1, "setxattr": 0}  # which text of a call is its path
+CREATING = ("mknod", "mknodat")
+
+
+@dataclass
+class Walked:
+    """The walk of a path: the node's kind and the error are empty where there is none."""
+
+    slash: bool = False  # the path, or the text of the link at its end, ends with a slash
+    onto_mount: bool = False  # a `..` led onto a directory on which something is mounted
+    read_only: bool = False  # it ends in a file system that is mounted read-only
+    kind: str = ""
+    error: str = ""
+
+
+@dataclass
+class Put:
+    """A request for a descriptor: its fields, whether a number was free when it was installed, and why it never was."""
+
+    asked: Addfd
+    is_full: bool = False
+    has_others: bool = False  # others were queued with it then
+    is_beyond: bool = False  # the number that it asks for is above the task's limit
+    lost_by: str = ""  # `answer` or `signal`
+
+
+@dataclass
+class Step:
+    """A step as the journal has to tell it, and what was so before it."""
+
+    line: str = ""
+    call: Optional[tuple] = None  # number and arguments
+    filters: list = field(default_factory=list)  # those that see it
+    request: object = None  # of an effect
+    texts: list = field(default_factory=list)  # of a native call: bytes, or the error
+    is_cut: bool = False  # of setxattr: memory ends within the value
+    walked: Walked = field(default_factory=Walked)
+    put: Optional[Put] = None
+    is_full: bool = False  # the task has no free number for a descriptor
+    is_other_node: bool = False  # the directory descriptor is open, and no directory
+    is_torn: bool = False  # it looks at bytes that only Linux has written
+    has_ended: bool = False  # so have all tasks that it is about
+    length: int = 0  # of a worker's read
+    written: bytes = b""  # by a worker
+    fitting: int = 0  # how many bytes there are mapped where it writes
+    pending: frozenset = frozenset()  # signals
+    fatal: frozenset = frozenset()  # those of them that end the task
+    is_held: bool = False  # the task waits in a killable call that was received
+    is_installed: bool = False  # a descriptor has answered the call, which hasn't returned
+    is_queued: bool = False  # a request for a descriptor waits for the task
+    last_pid: int = 0  # the one that was given last
+    whom: int = 0  # the PID to which a signal is sent
+
+    def error_of(self, place: int) -> str:
+        """The error of a text, or nothing."""
+        text = self.texts[place]
+        return error_text(text.number) if isinstance(text, Fail) else ""
+
+    @property
+    def errors(self) -> Set[str]:
+        """All errors of the texts."""
+        return {self.error_of(place) for place in range(len(self.texts))} - {""}
+
+
+def slash_at_the_end(path: bytes) -> bool:
+    return path.endswith(b"/") and path.strip(b"/") != b""
+
+
+class WatchedTree(Tree):
+    """A tree that notes how a path is walked."""
+
+    def __init__(self, container):
+        super().__init__(container)
+        self.walked, self.read_only = Walked(), set()
+
+    def up(self, node: int) -> int:
+        found = super().up(node)
+        self.walked.onto_mount |= found in self.mounted
+        return found
+
+    def looked_at(self, path, base, creates):
+        """How a walk goes, which changes nothing."""
+        slash = self.ends_with_slash(path, base, creates)
+        self.walked = Walked(slash)
+        try:
+            found = self.walk(path, base, creates)
+            node = found[0] if creates else found
+            self.walked.read_only = self.file_system(node) in self.read_only
+            self.walked.kind = "" if creates else self.nodes[found].kind
+        except Walk as error:
+            self.walked.error = error_text(error.fail.number)
+        return self.walked
+
+    def ends_with_slash(self, path, base, creates):
+        for _ in range(MOST_LINKS + 1):
+            if slash_at_the_end(path):
+                return True
+            if creates or not parts_of(path):
+                return False
+            try:
+                place = self.walk(path, base, creates=True)
+            except Walk:
+                return False
+            node = self.nodes[self.entries[place]] if place in self.entries else None
+            if node is None or node.kind != "link":
+                return False
+            path, base = node.target, place[0]
+        return False
+
+    def file_system(self, node: int) -> int:
+        """The root of the mount in which a node is."""
+        while node and self.nodes[node].directory is not None:
+            node = self.nodes[node].directory
+        return node
+
+    def mount(self, request, base):
+        answer = super().mount(request, base)
+        if answer is None and request.flags & READ_ONLY:
+            self.read_only.add(len(self.nodes) - 1)
+        return answer
+
+    def done(self, request, base):
+        path = request.target if isinstance(request, Mount) else request.path
+        self.latest = self.looked_at(path, base, isinstance(request, Mknod))
+        return super().done(request, base)
+
+
+class WatchedKernel(Kernel):
+    """A kernel that notes each step with its facts."""
+
+    def __init__(self, container):
+        self.found, self.facts, self.puts, self.torn = [], Step(), {}, {}
+        super().__init__(container)
+        self.tree = WatchedTree(container)
+
+    def note(self, actor, kind, *facts):
+        event = super().note(actor, kind, *facts)
+        if kind in NOTED:
+            NOTED[kind](self, actor, *facts)
+        self.facts.line = line_of(len(self.events) - 1, event)
+        self.found.append(self.facts)
+        self.facts = Step()
+        return event
+
+    # ---- before a step
+
+    def next_pid(self):
+        self.facts.last_pid = self.last_pid
+        return super().next_pid()
+
+    def make_task(self, name, pid, parent, group, *rest):
+        if parent and group is not parent.group:
+            self.torn[group] = list(self.torn.get(parent.group, []))
+        return super().make_task(name, pid, parent, group, *rest)
+
+    def native(self, task, number, args):
+        step, group, name = self.facts, task.group, CALL_NAMES.get(number)
+        step.call, step.filters, parts = (number, args), self.container.filters, plan(number, args)
+        step.texts = [group.copy(part) for part in parts]
+        step.is_torn = any(self.is_torn(group, part.address, part.limit) for part in parts)
+        step.is_full = group.lowest_free(self.container.rlimit) is None
+        step.is_cut = name == "setxattr" and 0 < args[3] <= MOST_OF_A_VALUE and not group.is_mapped(args[2], args[3])
+        if name == "sysinfo":
+            self.tear(group, args[0])
+        if name in PATHS:
+            self.look_at_path(task, name, base_of(number, args), step.texts[PATHS[name]])
+        return super().native(task, number, args)
+
+    def look_at_path(self, task, name, dirfd, path):
+        base = self.directory(task.group, dirfd)
+        self.facts.is_other_node = base is None and dirfd in task.group.slots
+        if not isinstance(path, Fail):
+            self.facts.walked = replace(self.tree.looked_at(path, base, name in CREATING))
+
+    def tear(self, group: Group, address: int) -> None:
+        """Linux writes the bytes of sysinfo up to the first that isn't mapped."""
+        if not group.is_mapped(address, SYSINFO_SIZE) and group.is_mapped(address):
+            self.torn.setdefault(group, []).append((address, address + SYSINFO_SIZE))
+
+    def is_torn(self, group: Group, address: int, length: int) -> bool:
+        return any(begin < address + length and address < end for begin, end in self.torn.get(group, []))
+
+    def install(self, task):
+        queue = task.call.queue
+        put = self.facts.put = next(put for put in self.puts.values() if put.asked is queue[0].asked)
+        put.is_full, put.has_others = task.group.lowest_free(self.container.rlimit) is None, len(queue) > 1
+        call, event = task.call, super().install(task)
+        call.is_installed = call.back is not None
+        return event
+
+    def put_answer(self, number, asked):
+        answer = super().put_answer(number, asked)
+        self.facts.put = Put(asked)
+        self.facts.is_installed = self.is_installed(asked.id)
+        if answer is None:
+            self.puts[number] = self.facts.put
+        return answer
+
+    def resume(self, task):
+        self.look_at_signals(task)
+        self.lose(task.call, "answer")
+        return super().resume(task)
+
+    def deliver(self, task, signal):
+        self.look_at_signals(task)
+        if task.call is not None:
+            self.lose(task.call, "signal")
+        return super().deliver(task, signal)
+
+    def look_at_signals(self, task):
+        step, call = self.facts, task.call
+        step.pending = frozenset(task.pending)
+        step.fatal = frozenset(filter(task.is_fatal, task.pending))
+        step.is_held = self.container.killable and call is not None and call.is_fetched
+        step.is_queued = call is not None and bool(call.queue)
+
+    def lose(self, call, by):
+        for put in self.puts.values():
+            if any(request.asked is put.asked for request in call.queue):
+                limit = self.container.rlimit
+                put.is_full, put.is_beyond = call.task.group.lowest_free(limit) is None, put.asked.newfd >= limit
+                put.lost_by = by
+
+    # ---- behind a step that leaves the facts as they were
+
+    def note_skip(self, actor: str) -> None:
+        self.facts.has_ended = all(task.has_ended for task in self.tasks.values())
+
+    def note_call(self, actor: str, number: int, args: Tuple[int, ...], verdict: Tuple[Any, ...]) -> None:
+        self.facts.call, self.facts.filters = (number, args), self.container.filters
+
+    def note_act(self, actor, request, answer):
+        self.facts.request, self.facts.walked = request, replace(self.tree.walked)
+
+    def note_kill(self, actor, pid, signal, answer):
+        self.facts.whom = pid
+
+    def note_read(self, actor, address, length, answer):
+        memory = self.worker(int(actor[1:])).memory
+        self.facts.has_ended = memory is not None and self.has_ended(memory)
+        self.facts.is_torn, self.facts.length = self.is_torn(memory, address, length), length
+
+    def note_plant(self, actor, address, content, answer):
+        memory = self.worker(int(actor[1:])).memory
+        self.facts.has_ended, self.facts.written = self.has_ended(memory), content
+        self.facts.fitting = sum(memory.is_mapped(address + at) for at in range(len(content)))
+
+    def note_take(self, actor, answer):
+        self.facts.put = self.puts[int(actor[1:])]
+
+    def note_send(self, actor, identifier, back, answer):
+        self.facts.is_installed = self.is_installed(identifier)
+
+    def is_installed(self, identifier: int) -> bool:
+        return getattr(self.named(identifier), "is_installed", False)
+
+    def has_ended(self, memory: Group) -> bool:
+        return all(task.has_ended for task in self.tasks.values() if task.group is memory)
+
+
+NOTED = {
+    "skip": WatchedKernel.note_skip, "call": WatchedKernel.note_call, "act": WatchedKernel.note_act, "kill": WatchedKernel.note_kill, "read": WatchedKernel.note_read,
+    "plant": WatchedKernel.note_plant, "addfd-take": WatchedKernel.note_take, "send": WatchedKernel.note_send,
+}
+
+
+def steps(policy, script):
+    """The steps of a script that the program plays under a policy."""
+    rules, container = policies.read_policy(policy), scripts.read_script(script)
+    session = Session(rules, container)
+    session.kernel = WatchedKernel(container)
+    return played(session, rules, container).kernel.found

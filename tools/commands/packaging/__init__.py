@@ -1,0 +1,1 @@
+"""What tools/commands/package makes packages of."""

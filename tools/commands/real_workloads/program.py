@@ -1,0 +1,14 @@
+"""Where the program is that the tools try."""
+from __future__ import annotations
+
+import os
+import sys
+
+TOP = os.path.dirname(os.path.dirname(os.path.dirname(os.path.dirname(os.path.realpath(__file__)))))
+BUILT = f"{TOP}/crates/seccomp_broker/out/seccomp_broker"
+
+
+def needed(path: str, tool: str) -> None:
+    """Ends the tool with a line where the program isn't there."""
+    if not os.access(path, os.X_OK):
+        sys.exit(f"{tool}: {path} isn't there; ./broker --prove builds it")

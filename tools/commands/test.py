@@ -1,0 +1,6 @@
+"""Runs test files: what calls come to under policies, compared with what is expected. `./broker help test` has its words."""
+from tools.commands.testing import command
+
+
+def main():
+    return command.main()

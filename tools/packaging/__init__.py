@@ -1,1 +1,0 @@
-"""What tools/package makes packages of."""

@@ -1,0 +1,34 @@
+"""Explores a script as `explore` does, over the written kernel of tools/references/reference-step, and joins histories that come to the same tables.
+
+    tools/references/reference-states [--without FIELD]... [--by-delays] [--counts] POLICY SCRIPT WORKERS DELAYS
+
+--without leaves out a field of the key by which histories are joined, --by-delays joins only those with equally many delays, and --counts prints how
+many states and steps there were in place of the text. It knows no limit of states or events.
+"""
+import sys
+import time
+from pathlib import Path
+
+from tools.commands.command_line.arguments import ToolParser
+from tools.references.joining.exploration import Exploration
+from tools.references.stepping import policies, scripts
+
+
+def main():
+    parser = ToolParser()
+    parser.add_argument("--without", action="append", default=[])
+    parser.add_argument("--by-delays", action="store_true")
+    parser.add_argument("--counts", action="store_true")
+    parser.add_argument("policy", type=Path)
+    parser.add_argument("script", type=Path)
+    parser.add_argument("workers", type=int)
+    parser.add_argument("delays")
+    asked = parser.parse_args()
+    rules, container = policies.read_policy(asked.policy.read_bytes()), scripts.read_script(asked.script.read_bytes())
+    begin = time.monotonic()
+    bound = None if asked.delays == "all" else int(asked.delays)
+    explored = Exploration(rules, container, asked.workers, bound, asked.without, asked.by_delays).walk()
+    if asked.counts:
+        print(f"histories={explored.histories} states={explored.states} widest={explored.widest} steps={explored.steps} seconds={time.monotonic() - begin:.1f}")
+    else:
+        sys.stdout.write(explored.text())

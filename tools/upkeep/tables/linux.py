@@ -1,0 +1,56 @@
+"""The differences from Linux, as LINUX and LINUX_MEASURED have them: of the known differences that `on-linux` reads."""
+from pathlib import Path
+
+from tools.commands.linux_stage import differences
+from tools.upkeep.tables.page import TOP
+
+SHORT = "| difference | for a test | case |\n|---|---|---|\n"
+LONG = "| difference | Linux | here | why | for a test | seen in |\n|---|---|---|---|---|---|\n"
+KEYS = {"name", "misleads", "what", "linux", "here", "why", "test", "seen", "stored", "shown", "case"}
+
+
+def case_of(row, top):
+    """A link to the case that shows it; empty if there is none."""
+    return f"[{Path(row['case']).parts[0].removesuffix('s')}]({top}{row['case']})" if row["case"] else ""
+
+
+def seen_in(row, top):
+    """Where it was seen, with its case."""
+    scripts = f"{row['stored']} script{'s' if row['stored'] > 1 else ''}"
+    place = scripts if row["seen"] == "scripts" else row["seen"]
+    return f"{place}; {case_of(row, top)}" if row["case"] else place
+
+
+def short(row):
+    return [f"**{row['name']}** {row['what']}", row["test"], case_of(row, "../")]
+
+
+def long(row):
+    return [f"**{row['name']}** {row['what']}", row["linux"], row["here"], row["why"], row["test"], seen_in(row, "../../")]
+
+
+def tables(head, columns):
+    """A table of each kind of differences, with these columns."""
+    parts = []
+    for kind, title in differences.KINDS.items():
+        lines = (f"| {' | '.join(columns(row))} |\n" for row in differences.of_kind(kind))
+        parts.append(f"### {title}\n\n{head}{''.join(lines)}")
+    return "\n".join(parts)
+
+
+def short_tables():
+    return tables(SHORT, short)
+
+
+def long_tables():
+    return tables(LONG, long)
+
+
+def faults():
+    """What is wrong with the rows."""
+    rows = differences.table()
+    found = [f"{row.get('name')}: its keys aren't {', '.join(sorted(KEYS))}" for row in rows if set(row) != KEYS]
+    found += [f"{row['name']}: no kind {row['misleads']}" for row in rows if row.get("misleads") not in differences.KINDS]
+    found += [f"{row['name']}: {row['case']} isn't there" for row in rows if row.get("case") and not (TOP / row["case"]).is_dir()]
+    found += ["two rows have one name"] if len({row.get("name") for row in rows}) != len(rows) else []
+    return found
