@@ -32,7 +32,7 @@ extern "C" {
 #endif
 
 /* The version of the library that this header belongs to. */
-#define BROKER_VERSION "0.9.0"
+#define BROKER_VERSION "0.10.0"
 
 /* How a call ended. 0 to 11 are the program's exit statuses. With each but BROKER_DONE, BROKER_OTHERWISE and BROKER_SHORT_BUFFER, `line`
  * has the one line that the program would print on standard error; with these three it is empty. */

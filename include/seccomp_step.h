@@ -27,8 +27,8 @@
  * of it. A program that waits for any child (waitpid(-1, ..)) takes the status away from sb_close, which then returns -ECHILD.
  *
  * Variables. Where SECCOMP_BROKER_KERNEL names a Unix socket, sb_open connects there, and starts no program: another one holds the kernel and
- * steps the tasks, as tools/explore-broker does. Then a call that would wait waits, and sb_step and sb_close_listener aren't for the broker.
- * Where SECCOMP_BROKER_SESSION names a file, requests and answers are written there, for tools/judge-slowly; each sb_open writes it anew.
+ * steps the tasks, as explore-broker does. Then a call that would wait waits, and sb_step and sb_close_listener aren't for the broker.
+ * Where SECCOMP_BROKER_SESSION names a file, requests and answers are written there, for reference-judge; each sb_open writes it anew.
  *
  * A whole session, which makes the device that a container asks for (examples/c/step_broker.c has a real one):
  *
@@ -110,7 +110,7 @@ int sb_report(struct sb_kernel *kernel, char **report, size_t *length);
  *   if (sb_script(kernel, &script, &length) == 0) { fwrite(script, 1, length, file); free(script); } */
 int sb_script(struct sb_kernel *kernel, char **script, size_t *length);
 
-/* What a judge finds of the broker, by what has happened so far: the first line of what `judge-slowly` prints of it, with its newline, given as sb_report gives the report.
+/* What a judge finds of the broker, by what has happened so far: the first line of what `reference-judge` prints of it, with its newline, given as sb_report gives the report.
  * It is `mediated events=N calls=N effects=N answers=N`, or of the first event that breaks a clause `broken PLACE CLASS CLAUSE` (docs/reference/OUTPUTS.md). Where `is_idle`, the
  * broker does nothing more by itself: then a call that it has received and that waits isn't answered, which is found at the newest event while the listener is open.
  *
@@ -135,6 +135,74 @@ int sb_able(struct sb_kernel *kernel, char *tasks, size_t size);
  *
  *   while (sb_step(kernel, "0") == 0) ; */
 int sb_step(struct sb_kernel *kernel, const char *task);
+
+/* ---- how something stands. A look is no event: nothing happens by it, no report tells it, and no judge hears it. */
+
+/* How many bytes a task's name and a link's target have at most, with the zero byte. */
+#define SB_MOST_NAME 456
+#define SB_MOST_TARGET 4096
+
+/* How a task is, by the letter of /proc/PID/stat: it is able to step; it waits, for the broker or for a child; it waits, and only a fatal signal
+ * ends that, since its call was received and the listener is killable; or it has ended and wasn't waited for. */
+enum sb_task_state { SB_RUNNING = 'R', SB_SLEEPING = 'S', SB_DISK_SLEEP = 'D', SB_ZOMBIE = 'Z' };
+
+/* A task: its name, the PID of its parent while that lives, else 0, and how it is. Each task is a thread group of its own. */
+struct sb_task {
+  char name[SB_MOST_NAME];
+  uint32_t ppid;
+  enum sb_task_state state;
+};
+
+/* A node of the container's tree: its ordinal, which no other node gets; its kind, as S_IFDIR (inode(7)); the numbers of a device, else 0; and
+ * the target of a link, else empty. */
+struct sb_node {
+  uint32_t ordinal;
+  mode_t kind;
+  uint32_t major_number, minor_number;
+  char target[SB_MOST_TARGET];
+};
+
+/* What a descriptor leads to. */
+enum sb_object { SB_NOTHING, SB_CONSOLE, SB_FILE, SB_NODE };
+
+/* The same, with the number of the broker's file that was put there (`srcfd`), or with the node. */
+struct sb_descriptor {
+  enum sb_object object;
+  uint32_t file;
+  struct sb_node node;
+};
+
+/* The task that holds a PID.
+ *
+ *   -ESRCH  nobody does
+ *
+ *   struct sb_task task;
+ *   bool waits = sb_look_pid(kernel, notif.pid, &task) == 0 && task.state != SB_RUNNING; */
+int sb_look_pid(struct sb_kernel *kernel, uint32_t pid, struct sb_task *task);
+
+/* What a descriptor of the task that holds a PID leads to: SB_NOTHING where it isn't open, where nobody holds the PID, and where the task has ended.
+ *
+ *   struct sb_descriptor leads;
+ *   int error = sb_look_fd(kernel, notif.pid, 3, &leads); */
+int sb_look_fd(struct sb_kernel *kernel, uint32_t pid, uint32_t number, struct sb_descriptor *leads);
+
+/* Where a path leads that the task which holds a PID would walk from a descriptor, or from its working directory (AT_FDCWD). Where `follows` isn't set,
+ * a link at the end is itself the node. Each path goes over the container's tree, and ends at its root.
+ *
+ *   -ESRCH  nobody holds the PID, or the task has ended
+ *   -EBADF  a relative path, and the descriptor is no directory
+ *   -ENOENT, -ENOTDIR, -ELOOP, -ENAMETOOLONG  the walk leads nowhere (path_resolution(7))
+ *
+ *   struct sb_node node;
+ *   int error = sb_look_path(kernel, notif.pid, AT_FDCWD, "/dev/null", true, &node); */
+int sb_look_path(struct sb_kernel *kernel, uint32_t pid, int dirfd, const char *path, bool follows, struct sb_node *node);
+
+/* poll(2) of the listener: POLLIN where a call waits to be received, POLLOUT where one was received and waits for its answer.
+ *
+ *   bool is_there = (sb_look_listener(kernel) & POLLIN) != 0; */
+int sb_look_listener(struct sb_kernel *kernel);
+
+/* ---- its end */
 
 /* Closes the listener, as the end of the broker does. After it only sb_answer, sb_report, sb_script, sb_judge and sb_close do something. */
 int sb_close_listener(struct sb_kernel *kernel);
@@ -200,10 +268,10 @@ int sb_let_go(struct sb_kernel *kernel, unsigned worker);
 
 /* ---- the caller's memory (proc(5)) */
 
-/* open(2) of /proc/PID/mem: the memory of whichever task has this PID by now. It stays open, whatever becomes of the task.
+/* open(2) of /proc/PID/mem: the memory of whichever task has this PID by now. It stays open, whatever becomes of the task. A second one takes its
+ * place, and closes it.
  *
  *   -ESRCH  nobody has the PID, or the task has ended (Linux: ENOENT)
- *   -EBUSY  the seat has a memory open: let go of it first
  *
  *   int error = sb_open_mem(kernel, 0, notif.pid); */
 int sb_open_mem(struct sb_kernel *kernel, unsigned worker, uint32_t pid);

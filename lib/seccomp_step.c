@@ -5,6 +5,7 @@
 #include <errno.h>
 #include <fcntl.h>
 #include <inttypes.h>
+#include <poll.h>
 #include <pthread.h>
 #include <signal.h>
 #include <spawn.h>
@@ -13,6 +14,7 @@
 #include <stdlib.h>
 #include <string.h>
 #include <sys/socket.h>
+#include <sys/stat.h>
 #include <sys/un.h>
 #include <sys/wait.h>
 #include <time.h>
@@ -125,9 +127,8 @@ static const struct {
   const char *reason;
   int number;
 } refusals[] = {
-    {"no task", ESRCH},           {"worker", ECHRNG},      {"memory is open", EBUSY},  {"no memory is open", EBADF},
-    {"request is put", EALREADY}, {"no request", ENOMSG},  {"closed", ESHUTDOWN},      {"long line", EMSGSIZE},
-    {"full", EFBIG},
+    {"no task", ESRCH},           {"worker", ECHRNG},     {"no memory is open", EBADF}, {"request is put", EALREADY},
+    {"no request", ENOMSG},       {"closed", ESHUTDOWN},  {"long line", EMSGSIZE},      {"full", EFBIG},
 };
 
 /* The negated error of a result: 0 for `ok`, and -EPROTO for a word that is none. */
@@ -147,6 +148,10 @@ static int error_refused(const char *reason) {
     if (strcmp(reason, refusals[at].reason) == 0)
       return -refusals[at].number;
   return -EPROTO;
+}
+
+static int digit_of(char letter) {
+  return letter >= '0' && letter <= '9' ? letter - '0' : letter >= 'a' && letter <= 'f' ? letter - 'a' + 10 : -1;
 }
 
 /* What stands behind the beginning of a text, or NULL where it begins otherwise. */
@@ -509,6 +514,133 @@ int sb_step(struct sb_kernel *kernel, const char *task) {
   return error == -EPROTO && behind(kernel->answer.bytes, "refused line") != NULL ? -ESRCH : error;
 }
 
+/* ---- looks */
+
+static const struct {
+  const char *word;
+  enum sb_task_state state;
+} states[] = {{"running", SB_RUNNING}, {"sleeping", SB_SLEEPING}, {"disk-sleep", SB_DISK_SLEEP}, {"zombie", SB_ZOMBIE}};
+
+static const struct {
+  const char *word;
+  mode_t kind;
+} kinds[] = {
+    {"dir", S_IFDIR}, {"reg", S_IFREG}, {"link", S_IFLNK}, {"fifo", S_IFIFO}, {"sock", S_IFSOCK}, {"chr", S_IFCHR}, {"blk", S_IFBLK},
+};
+
+/* Reads a text between quotes, as a report writes it, and answers whether it is one and has room. */
+static bool read_quoted(const char *text, char *bytes, size_t size) {
+  if (*text++ != '"')
+    return false;
+  size_t used = 0;
+  for (; *text != '"'; text++) {
+    unsigned value = (unsigned char)*text;
+    if (value == '\\' && text[1] == 'x') {
+      int high = digit_of(text[2]), low = high < 0 ? -1 : digit_of(text[3]);
+      if (low < 0)
+        return false;
+      value = (unsigned)(16 * high + low);
+      text += 3;
+    } else if (value == '\\') {
+      value = (unsigned char)*++text;
+    }
+    if (value == 0 || used + 1 >= size)
+      return false;
+    bytes[used++] = (char)value;
+  }
+  bytes[used] = '\0';
+  return text[1] == '\0';
+}
+
+/* Reads what stands behind `look node `: an ordinal, a kind, and what belongs to that. */
+static int read_node(const char *told, struct sb_node *node) {
+  char word[8];
+  int end = 0;
+  *node = (struct sb_node){0};
+  if (sscanf(told, "%" SCNu32 " %7s%n", &node->ordinal, word, &end) != 2)
+    return -EPROTO;
+  for (size_t at = 0; at < sizeof kinds / sizeof *kinds; at++)
+    if (strcmp(word, kinds[at].word) == 0)
+      node->kind = kinds[at].kind;
+  const char *rest = told + end;
+  if (node->kind == S_IFLNK)
+    return rest[0] == ' ' && read_quoted(rest + 1, node->target, sizeof node->target) ? 0 : -EPROTO;
+  if (node->kind == S_IFCHR || node->kind == S_IFBLK)
+    return sscanf(rest, " %" SCNu32 ":%" SCNu32, &node->major_number, &node->minor_number) == 2 ? 0 : -EPROTO;
+  return node->kind != 0 && *rest == '\0' ? 0 : -EPROTO;
+}
+
+int sb_look_pid(struct sb_kernel *kernel, uint32_t pid, struct sb_task *task) {
+  if (task == NULL)
+    return -EFAULT;
+  add_format(request(kernel), "look pid %" PRIu32, pid);
+  int error = ask(kernel);
+  if (error != 0)
+    return error;
+  if (strcmp(kernel->answer.bytes, "look none") == 0)
+    return -ESRCH;
+  char word[16];
+  _Static_assert(SB_MOST_NAME == 456, "the width of the format below");
+  if (sscanf(kernel->answer.bytes, "look task %455s ppid %" SCNu32 " state %15s", task->name, &task->ppid, word) != 3)
+    return -EPROTO;
+  for (size_t at = 0; at < sizeof states / sizeof *states; at++)
+    if (strcmp(word, states[at].word) == 0) {
+      task->state = states[at].state;
+      return 0;
+    }
+  return -EPROTO;
+}
+
+int sb_look_fd(struct sb_kernel *kernel, uint32_t pid, uint32_t number, struct sb_descriptor *leads) {
+  if (leads == NULL)
+    return -EFAULT;
+  add_format(request(kernel), "look fd %" PRIu32 " %" PRIu32, pid, number);
+  int error = ask(kernel);
+  if (error != 0)
+    return error;
+  const char *answer = kernel->answer.bytes, *rest;
+  *leads = (struct sb_descriptor){.object = SB_NOTHING};
+  if (strcmp(answer, "look none") == 0)
+    return 0;
+  if (strcmp(answer, "look console") == 0) {
+    leads->object = SB_CONSOLE;
+    return 0;
+  }
+  if ((rest = behind(answer, "look node ")) != NULL) {
+    leads->object = SB_NODE;
+    return read_node(rest, &leads->node);
+  }
+  leads->object = SB_FILE;
+  return sscanf(answer, "look file %" SCNu32, &leads->file) == 1 ? 0 : -EPROTO;
+}
+
+int sb_look_path(struct sb_kernel *kernel, uint32_t pid, int dirfd, const char *path, bool follows, struct sb_node *node) {
+  if (path == NULL || node == NULL)
+    return -EFAULT;
+  add_format(request(kernel), "look path %" PRIu32 " %d", pid, dirfd);
+  add_string(&kernel->request, path);
+  add_format(&kernel->request, follows ? " follow" : " nofollow");
+  int error = ask(kernel);
+  if (error != 0)
+    return error;
+  const char *rest = behind(kernel->answer.bytes, "look error ");
+  if (rest != NULL)
+    return error_named(rest);
+  rest = behind(kernel->answer.bytes, "look node ");
+  return rest == NULL ? -EPROTO : read_node(rest, node);
+}
+
+int sb_look_listener(struct sb_kernel *kernel) {
+  add_format(request(kernel), "look listener");
+  int error = ask(kernel);
+  if (error != 0)
+    return error;
+  int in, out;
+  if (sscanf(kernel->answer.bytes, "look in=%d out=%d", &in, &out) != 2)
+    return -EPROTO;
+  return (in ? POLLIN : 0) | (out ? POLLOUT : 0);
+}
+
 int sb_close_listener(struct sb_kernel *kernel) {
   add_format(request(kernel), "close");
   return ask(kernel);
@@ -585,10 +717,6 @@ int sb_let_go(struct sb_kernel *kernel, unsigned worker) {
 int sb_open_mem(struct sb_kernel *kernel, unsigned worker, uint32_t pid) {
   add_format(request_of(kernel, worker, "open-mem "), "%" PRIu32, pid);
   return ask_result(kernel);
-}
-
-static int digit_of(char letter) {
-  return letter >= '0' && letter <= '9' ? letter - '0' : letter >= 'a' && letter <= 'f' ? letter - 'a' + 10 : -1;
 }
 
 /* Reads bytes in hexadecimal, `-` for none, and answers how many there are. */

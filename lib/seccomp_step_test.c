@@ -1,9 +1,10 @@
-/* Each call of seccomp_step.h, and each error that it says, in a folder with the files of examples/own-broker. tools/check-your-broker runs it. */
+/* Each call of seccomp_step.h, and each error that it says, in a folder with the files of examples/own-broker. tools/checks/check-your-broker runs it. */
 #define _GNU_SOURCE
 #include <seccomp_step.h>
 
 #include <errno.h>
 #include <fcntl.h>
+#include <poll.h>
 #include <stdio.h>
 #include <stdlib.h>
 #include <string.h>
@@ -160,13 +161,58 @@ static void test_descriptors(void) {
   WANTS(sb_close(kernel), 0);
 }
 
+static void test_looks(void) {
+  struct sb_kernel *kernel = opened("calls.txt");
+  struct seccomp_notif notif = {0};
+  struct sb_task task;
+  struct sb_descriptor leads;
+  struct sb_node node;
+  run(kernel);
+  WANTS(sb_look_pid(kernel, 1, &task), 0);
+  wants_text(__LINE__, task.name, "0");
+  WANTS(task.ppid, 0);
+  WANTS(task.state, SB_SLEEPING);
+  WANTS(sb_look_pid(kernel, 2, &task), -ESRCH);
+  WANTS(sb_look_pid(kernel, 1, NULL), -EFAULT);
+  WANTS(sb_look_listener(kernel), POLLIN);
+  WANTS(sb_recv(kernel, 0, &notif), 0);
+  WANTS(sb_look_listener(kernel), POLLOUT);
+  struct seccomp_notif_addfd asked = {.id = notif.id, .srcfd = 5};
+  WANTS(sb_addfd(kernel, 0, &asked), 0);
+  WANTS(sb_look_pid(kernel, 1, &task), 0);
+  WANTS(task.state, SB_RUNNING);
+  WANTS(sb_step(kernel, "0"), 0);
+  WANTS(sb_look_fd(kernel, 1, 0, &leads), 0);
+  WANTS(leads.object, SB_CONSOLE);
+  WANTS(sb_look_fd(kernel, 1, 3, &leads), 0);
+  WANTS(leads.object, SB_FILE);
+  WANTS(leads.file, 5);
+  WANTS(sb_look_fd(kernel, 1, 4, &leads), 0);
+  WANTS(leads.object, SB_NOTHING);
+  WANTS(sb_mknodat(kernel, 0, AT_FDCWD, "/look \"", S_IFCHR | 0666, makedev(1, 3)), 0);
+  WANTS(sb_look_path(kernel, 1, AT_FDCWD, "look \"", false, &node), 0);
+  WANTS(node.kind, S_IFCHR);
+  WANTS(node.major_number, 1);
+  WANTS(node.minor_number, 3);
+  WANTS(sb_look_path(kernel, 1, AT_FDCWD, "/dev/", true, &node), 0);
+  WANTS(node.kind, S_IFDIR);
+  WANTS(node.ordinal, 1);
+  WANTS(sb_look_path(kernel, 1, 4, "look", true, &node), -EBADF);
+  WANTS(sb_look_path(kernel, 2, AT_FDCWD, "/", true, &node), -ESRCH);
+  WANTS(sb_look_path(kernel, 1, AT_FDCWD, "", true, &node), -ENOENT);
+  WANTS(sb_look_path(kernel, 1, AT_FDCWD, NULL, true, &node), -EFAULT);
+  WANTS(sb_close_listener(kernel), 0);
+  WANTS(sb_look_listener(kernel), -ESHUTDOWN);
+  WANTS(sb_close(kernel), 0);
+}
+
 static void test_memory(void) {
   struct sb_kernel *kernel = opened("calls.txt");
   char bytes[2 * SB_MOST_READ];
   struct sysinfo info = {.uptime = 7, .totalram = 4096, .mem_unit = 1};
   run(kernel);
   WANTS(sb_open_mem(kernel, 0, 1), 0);
-  WANTS(sb_open_mem(kernel, 0, 1), -EBUSY);
+  WANTS(sb_open_mem(kernel, 0, 1), 0);
   WANTS(sb_pread(kernel, 0, bytes, 8, 0x10000), 8);
   WANTS(memcmp(bytes, "/log\0\0\0", 8), 0);
   WANTS(sb_pread(kernel, 0, bytes, sizeof bytes, 0x10000), SB_MOST_READ);
@@ -316,6 +362,7 @@ int main(void) {
   test_before_a_call();
   test_answers();
   test_descriptors();
+  test_looks();
   test_memory();
   test_effects();
   test_script();

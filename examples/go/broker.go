@@ -1,4 +1,4 @@
-// Package seccompbroker plays scripts under policies, and checks reports, by the C library that tools/make-c-library makes.
+// Package seccompbroker plays scripts under policies, and checks reports, by the C library that tools/commands/make-c-library makes.
 package seccompbroker
 
 /*

@@ -12,15 +12,17 @@ on. BlockingIOError says that the real call would wait: nothing has happened; le
 OSError with ECHRNG (there are 16 seats), ESHUTDOWN (the listener is closed), EMSGSIZE (the texts of the call are too long), EPIPE (the program
 has ended) and EPROTO (its answer can't be understood). Calls of one Kernel come from one thread at a time.
 
-Where the variable SECCOMP_BROKER_KERNEL names a socket, the kernel is behind that, and another program steps the tasks, as tools/explore-broker does: then a call that
-would wait waits. Where SECCOMP_BROKER_SESSION names a file, each request and its answer is written there, for tools/judge-slowly.
+Where the variable SECCOMP_BROKER_KERNEL names a socket, the kernel is behind that, and another program steps the tasks, as explore-broker does: then a call that
+would wait waits. Where SECCOMP_BROKER_SESSION names a file, each request and its answer is written there, for reference-judge.
 """
 import errno
 import os
+import re
+import select
 import socket
 import struct
 import subprocess
-from typing import NamedTuple
+from typing import NamedTuple, Optional
 
 CONTINUE = 1  # SECCOMP_USER_NOTIF_FLAG_CONTINUE
 ADDFD_SETFD, ADDFD_SEND = 1, 2  # SECCOMP_ADDFD_FLAG_SETFD, SECCOMP_ADDFD_FLAG_SEND
@@ -28,8 +30,8 @@ AT_FDCWD = -100
 MOST_READ = 4096
 RESPONSE, ADDFD = struct.Struct("<QqiI"), struct.Struct("<QIIII")
 REFUSALS = {
-    "no task": errno.ESRCH, "worker": errno.ECHRNG, "memory is open": errno.EBUSY, "no memory is open": errno.EBADF, "request is put": errno.EALREADY,
-    "no request": errno.ENOMSG, "closed": errno.ESHUTDOWN, "long line": errno.EMSGSIZE, "full": errno.EFBIG,
+    "no task": errno.ESRCH, "worker": errno.ECHRNG, "no memory is open": errno.EBADF, "request is put": errno.EALREADY, "no request": errno.ENOMSG,
+    "closed": errno.ESHUTDOWN, "long line": errno.EMSGSIZE, "full": errno.EFBIG,
 }
 
 
@@ -43,6 +45,36 @@ class Notif(NamedTuple):
     arch: int
     ip: int
     args: tuple
+
+
+class Task(NamedTuple):
+    """A task as a look sees it: the PID of its parent while that lives, else 0; and `running`, `sleeping`, `disk-sleep` or `zombie`."""
+
+    name: str
+    ppid: int
+    state: str
+
+
+class Node(NamedTuple):
+    """A node of the container's tree: its ordinal, which no other node gets; `dir`, `reg`, `link`, `fifo`, `sock`, `chr` or `blk`; and the numbers of a device, or the
+    bytes of a link's target, else None."""
+
+    ordinal: int
+    kind: str
+    device: Optional[tuple] = None
+    target: Optional[bytes] = None
+
+
+def unquoted(text):
+    """The bytes of a text as reports write it."""
+    return re.sub(rb"\\(?:x(..)|(.))", lambda found: bytes.fromhex(found[1].decode()) if found[1] else found[2], text.encode("latin-1")[1:-1])
+
+
+def node_of(words):
+    """The node that an answer tells of."""
+    ordinal, kind, *more = words.split(" ", 2)
+    device = tuple(map(int, more[0].split(":"))) if kind in ("chr", "blk") else None
+    return Node(int(ordinal), kind, device, unquoted(more[0]) if kind == "link" else None)
 
 
 def quoted(text):
@@ -206,6 +238,36 @@ class Kernel:
         answered, which is found at the newest event while the listener is open."""
         return self.text("judge idle" if is_idle else "judge").decode("latin-1").rstrip("\n")
 
+    # ---- looks. They are no events: no report tells them, and no judge hears them
+
+    def look_pid(self, pid):
+        """The task that holds a PID. Raises ProcessLookupError where nobody does."""
+        told = self.ask(f"look pid {pid}")
+        if told == "look none":
+            raise failed(errno.ESRCH, told)
+        _, _, name, _, ppid, _, state = told.split(" ")
+        return Task(name, int(ppid), state)
+
+    def look_fd(self, pid, number):
+        """What a descriptor of the task that holds a PID leads to: a Node, the number of a file of the broker's, or `console`. None where it isn't open, where nobody
+        holds the PID, and where the task has ended."""
+        _, kind, *rest = self.ask(f"look fd {pid} {number}").split(" ", 2)
+        return {"none": lambda: None, "console": lambda: kind, "file": lambda: int(rest[0]), "node": lambda: node_of(rest[0])}[kind]()
+
+    def look_path(self, pid, path, dirfd=AT_FDCWD, follows=True):
+        """The Node to which a path leads that the task which holds a PID would walk; a link at its end is followed, or is itself the node. Raises OSError: ESRCH, EBADF,
+        ENOENT, ENOTDIR, ELOOP, ENAMETOOLONG."""
+        told = self.ask(b"look path %d %d %s %s" % (pid, dirfd, quoted(path), b"follow" if follows else b"nofollow"))
+        _, kind, rest = told.split(" ", 2)
+        if kind == "error":
+            raise failed(error_of(rest) or errno.EPROTO, told)
+        return node_of(rest)
+
+    def look_listener(self):
+        """What poll(2) of the listener gives: select.POLLIN where a call waits to be received, select.POLLOUT where one was received and waits for its answer."""
+        _, receives, sends = self.ask("look listener").split(" ")
+        return (select.POLLIN if receives == "in=1" else 0) | (select.POLLOUT if sends == "out=1" else 0)
+
     def close_listener(self):
         """Closes the listener, as the end of the broker does. Behind it only report, script, judge and close do something."""
         self.ask("close")
@@ -277,7 +339,7 @@ class Seat:
     # ---- the caller's memory (proc(5))
 
     def open_mem(self, pid):
-        """Opens the memory of whoever has this PID by now. Raises ProcessLookupError, or OSError with EBUSY where one is open."""
+        """Opens the memory of whoever has this PID by now, in the place of one that is open. Raises ProcessLookupError."""
         result_of(self.ask("open-mem", pid))
 
     def pread(self, count, address):

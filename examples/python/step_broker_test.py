@@ -6,6 +6,7 @@ import contextlib
 import errno
 import itertools
 import os
+import select
 import subprocess
 import tempfile
 import unittest
@@ -148,10 +149,26 @@ class OfCalls(unittest.TestCase):
         self.kernel.step("0")
         self.assertEqual(self.seat.addfd_result(), 3)
 
+    def test_looks(self):
+        list(self.kernel.steps("0"))
+        self.assertEqual(self.kernel.look_pid(1), ("0", 0, "sleeping"))
+        self.assertRaises(ProcessLookupError, self.kernel.look_pid, 2)
+        self.assertEqual(self.kernel.look_listener(), select.POLLIN)
+        notif = self.seat.recv()
+        self.assertEqual(self.kernel.look_listener(), select.POLLOUT)
+        self.seat.addfd(notif.id, 5, flags=0)
+        self.kernel.step("0")
+        self.assertEqual([self.kernel.look_fd(1, number) for number in (0, 3, 4)], ["console", 5, None])
+        self.seat.mknodat('/look "', 0o020666, 259)
+        self.assertEqual(self.kernel.look_path(1, 'look "', follows=False)[1:], ("chr", (1, 3), None))
+        self.assert_fails(errno.EBADF, self.kernel.look_path, 1, "look", dirfd=4)
+        self.assertRaises(FileNotFoundError, self.kernel.look_path, 1, "")
+        self.assertRaises(ProcessLookupError, self.kernel.look_path, 2, "/")
+
     def test_memory_and_effects(self):
         list(self.kernel.steps("0"))
         self.seat.open_mem(1)
-        self.assert_fails(errno.EBUSY, self.seat.open_mem, 1)
+        self.seat.open_mem(1)
         self.assertEqual(self.seat.pread(8, 0x10000), b"/log\0\0\0\0")
         self.assertEqual(len(self.seat.pread(10_000, 0x10000)), 4096)
         self.assertEqual(len(self.seat.pread(64, 0x1FFF0)), 16)
@@ -159,10 +176,10 @@ class OfCalls(unittest.TestCase):
         self.seat.write_sysinfo(0x1F000, bytes(range(112)))
         self.assertEqual(self.seat.pread(112, 0x1F000), bytes(range(112)))
         self.seat.mknodat('/dev/a "b\\\n', 0o010666)
-        self.assertEqual(self.kernel.answer, '10 w3 act mknod "/dev/a \\"b\\\\\\x0a" fifo ok')
+        self.assertEqual(self.kernel.answer, '11 w3 act mknod "/dev/a \\"b\\\\\\x0a" fifo ok')
         self.assertRaises(FileExistsError, self.seat.mknodat, "/log", 0o010666)
         self.seat.mount("/dev/sda1", "/mnt", "ext4", 1, "x", via="fuse2fs", shift=True)
-        self.assertEqual(self.kernel.answer, '12 w3 act mount "/dev/sda1" "/mnt" "ext4" flags=1 data="x" via=fuse2fs shift=1 ok')
+        self.assertEqual(self.kernel.answer, '13 w3 act mount "/dev/sda1" "/mnt" "ext4" flags=1 data="x" via=fuse2fs shift=1 ok')
         self.seat.setxattr("/log", "user.a", b"\0\xff")
         self.assert_fails(errno.ENODATA, self.seat.setxattr, "/log", "user.b", "", 2)
         self.assert_fails(errno.EMSGSIZE, self.seat.setxattr, "/log", "user.b", bytes(40_000))

@@ -399,7 +399,7 @@ static answer *const answers[CALLS] = {
     [SYS_write] = answer_write, [SYS_pwrite64] = answer_write, [SYS_writev] = answer_write, [SYS_pwritev] = answer_write, [SYS_pwritev2] = answer_write, [SYS_process_vm_readv] = answer_vm_read,
     [SYS_close] = answer_close, [SYS_close_range] = answer_close_range, [SYS_dup] = answer_dup, [SYS_dup2] = answer_dup, [SYS_dup3] = answer_dup, [SYS_fcntl] = answer_fcntl, [SYS_mknod] = answer_mknod,
     [SYS_mknodat] = answer_mknod, [SYS_mount] = answer_mount, [SYS_setxattr] = answer_setxattr, [SYS_stat] = answer_stat, [SYS_lstat] = answer_stat, [SYS_fstat] = answer_fstat, [SYS_newfstatat] = answer_stat,
-    [SYS_statx] = answer_statx, [SYS_access] = answer_access, [SYS_faccessat] = answer_access, [SYS_faccessat2] = answer_access, [SYS_readlink] = answer_readlink, [SYS_readlinkat] = answer_readlink,
+    [SYS_statx] = answer_statx, [SYS_access] = answer_access, [SYS_faccessat] = answer_access, [SYS_faccessat2] = answer_access, [SYS_readlink] = answer_readlink, [SYS_readlinkat] = answer_readlink, [SYS_statfs] = answer_statfs, [SYS_fstatfs] = answer_statfs, [SYS_getdents64] = answer_list,
     [SYS_chdir] = answer_chdir, [SYS_fchdir] = answer_fchdir, [SYS_chroot] = answer_chroot, [SYS_setns] = answer_setns, [SYS_pidfd_open] = answer_pidfd_open, [SYS_pidfd_getfd] = answer_pidfd_getfd,
     [SYS_pidfd_send_signal] = answer_pidfd_signal, [SYS_waitid] = answer_waitid, [SYS_clone] = answer_clone, [SYS_clone3] = answer_clone3, [SYS_fork] = answer_fork, [SYS_vfork] = answer_fork,
     [SYS_execve] = answer_exec, [SYS_execveat] = answer_exec, [SYS_unshare] = answer_unshare, [SYS_kill] = answer_kill, [SYS_socket] = answer_socket, [SYS_connect] = answer_address, [SYS_bind] = answer_address,

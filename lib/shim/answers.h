@@ -28,10 +28,10 @@ static inline bool give(struct call *call, long result) {
 /* The answer of a call of the class OWN; NULL of another one. */
 answer *answer_of(long number);
 
-/* Of sockets.c, starting.c and tree.c. */
+/* Of sockets.c, starting.c, memory.c, tree.c and questions.c. */
 answer answer_socket, answer_address, answer_sendto, answer_message, answer_messages, answer_received;
 answer answer_exec, answer_clone, answer_clone3, answer_fork, answer_unshare;
-answer answer_open, answer_open_at, answer_openat2, answer_read, answer_write, answer_seek, answer_vm_read, answer_mknod, answer_mount, answer_setxattr, answer_stat, answer_fstat, answer_statx, answer_access, answer_readlink, answer_chdir,
+answer answer_open, answer_open_at, answer_openat2, answer_read, answer_write, answer_seek, answer_vm_read, answer_mknod, answer_mount, answer_setxattr, answer_stat, answer_fstat, answer_statx, answer_access, answer_readlink, answer_statfs, answer_list, answer_chdir,
     answer_fchdir, answer_chroot, answer_setns, answer_pidfd_open, answer_pidfd_getfd, answer_pidfd_signal, answer_waitid;
 
 /* Looks at a call of the class LOOK: tells it where an argument concerns a task, or changes what isn't the run's. */

@@ -16,10 +16,10 @@
 #include <unistd.h>
 
 /* What a seat of the written kernel has: whether a notification is in hand there, the number of the thread that has done something for it last, whether it is finished, since the broker
- * has answered it or was told that it has gone, and how many folders were opened for it. A seat is reserved while it is received into, or let go of. */
+ * has answered it or was told that it has gone, and how many memories and folders were opened for it. A seat is reserved while it is received into, or let go of. */
 struct hand {
   enum { FREE, RESERVED, HELD } state;
-  unsigned thread, bases;
+  unsigned thread, opened[KINDS_OPENED];
   bool is_finished;
   struct seccomp_notif notif;
 };
@@ -287,8 +287,8 @@ bool is_callers(long pid) {
   return false;
 }
 
-unsigned note_base(unsigned seat) { return ++shared->hands[seat].bases; }
-unsigned last_base(unsigned seat) { return shared->hands[seat].bases; }
+unsigned note_opening(unsigned seat, enum opened what) { return ++shared->hands[seat].opened[what]; }
+bool is_last_opening(unsigned seat, enum opened what, unsigned opening) { return shared->hands[seat].opened[what] == opening; }
 
 bool has_unanswered(void) {
   for (unsigned seat = 0; seat < SB_MOST_WORKERS; seat++)

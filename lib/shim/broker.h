@@ -30,9 +30,10 @@ unsigned seat_of_pid(uint32_t pid, const char *call, const char *path);
 unsigned seat_meant(const char *call, const char *path);
 /* Whether a notification in hand is of this PID. */
 bool is_callers(long pid);
-/* Notes that a folder was opened for a seat, and gives the number of this opening; and the number of the last one. */
-unsigned note_base(unsigned seat);
-unsigned last_base(unsigned seat);
+/* A seat keeps what was opened last of each: notes an opening, and gives its number; and whether it is the last one. */
+enum opened { A_MEMORY, A_FOLDER, KINDS_OPENED };
+unsigned note_opening(unsigned seat, enum opened what);
+bool is_last_opening(unsigned seat, enum opened what, unsigned opening);
 /* Whether a call is in hand that isn't answered, as far as the broker knows. */
 bool has_unanswered(void);
 

@@ -2,7 +2,7 @@
  * call_list.h - every system call that the library knows, and what becomes of it
  *
  * CALL(name, class, arguments, is_held): calls.h has what each is. A line that begins with `GROUP` heads the calls below it, with what is answered, passed and told of them:
- * tools/guard-table makes the table of docs/YOUR_BROKER.md of these lines. What isn't here is told.
+ * tools/upkeep/guard-table makes the table of docs/reference/AGENTS.md of these lines. What isn't here is told.
  */
 GROUP("The listener", "RECV, ID_VALID, SEND and ADDFD; `poll`, and `epoll` in one set, for POLLIN, and for POLLOUT by itself", "`fcntl`, `dup`, `close`", "other requests, `select`, EPOLLET, two sets")
 CALL(ioctl, OWN, "f", 0) CALL(poll, OWN, "", 0) CALL(ppoll, OWN, "", 0) CALL(select, OWN, "", 0) CALL(pselect6, OWN, "", 0)
@@ -12,16 +12,16 @@ CALL(epoll_create, PASS, "", 0) CALL(epoll_create1, PASS, "", 0)
 GROUP("The filter", "a filter with a listener: it isn't installed, and the listener is given; the sizes of structures", "other filters, for the process itself", "")
 CALL(seccomp, OWN, "", 0)
 
-GROUP("Opening", "of `/proc/PID`: `mem`, `root`, `cwd`, `fd/N`, `ns/mnt`, `status`, `stat`, `comm`, and the folder itself", "reading other files; writing those of the run", "other files of `/proc/PID`; what stands in the tree, but with O_PATH; writing elsewhere")
+GROUP("Opening", "of `/proc/PID`: `mem`, `root`, `cwd`, `fd/N`, `ns/mnt`, `status`, `stat`, `comm`, `task`, and the folder itself", "reading other files; writing those of the run", "other files of `/proc/PID`; what stands in the tree, but with O_PATH; writing elsewhere")
 CALL(open, OWN, "", 0) CALL(openat, OWN, "", 0) CALL(openat2, OWN, "", 0) CALL(creat, LOOK, "w", 1)
 
-GROUP("Reading and writing", "reads of a memory, and `pwrite` of a `struct sysinfo`", "all other descriptors", "other writes to a memory; a descriptor of a task in any other call")
+GROUP("Reading and writing", "reads of a memory, and `pwrite` of a `struct sysinfo`; the list of a task's threads", "all other descriptors", "other writes to a memory; a descriptor of a task in any other call")
 CALL(read, OWN, "f", 0) CALL(pread64, OWN, "f", 0) CALL(readv, OWN, "f", 0) CALL(preadv, OWN, "f", 0) CALL(preadv2, OWN, "f", 0) CALL(lseek, OWN, "f", 0)
 CALL(write, OWN, "f", 0) CALL(pwrite64, OWN, "f", 0) CALL(writev, OWN, "f", 0) CALL(pwritev, OWN, "f", 0) CALL(pwritev2, OWN, "f", 0)
 CALL(process_vm_readv, OWN, "", 1) CALL(process_vm_writev, LOOK, "i", 1)
 CALL(sendfile, LOOK, "ff", 0) CALL(splice, LOOK, "f.f", 0) CALL(tee, LOOK, "ff", 0) CALL(vmsplice, LOOK, "f", 0) CALL(copy_file_range, LOOK, "f.f", 0)
 CALL(readahead, LOOK, "f", 0) CALL(fadvise64, LOOK, "f", 0) CALL(sync_file_range, LOOK, "f", 0) CALL(fsync, LOOK, "f", 0) CALL(fdatasync, LOOK, "f", 0) CALL(sync, PASS, "", 0)
-CALL(syncfs, LOOK, "f", 0) CALL(flock, LOOK, "f", 0) CALL(getdents, LOOK, "f", 0) CALL(getdents64, LOOK, "f", 0) CALL(ftruncate, LOOK, "f", 0) CALL(fallocate, LOOK, "f", 0)
+CALL(syncfs, LOOK, "f", 0) CALL(flock, LOOK, "f", 0) CALL(getdents, LOOK, "f", 0) CALL(getdents64, OWN, "f", 0) CALL(ftruncate, LOOK, "f", 0) CALL(fallocate, LOOK, "f", 0)
 
 GROUP("Descriptors", "copies of a task's descriptors", "all", "")
 CALL(close, OWN, "", 0) CALL(close_range, OWN, "", 0) CALL(dup, OWN, "", 0) CALL(dup2, OWN, "", 0) CALL(dup3, OWN, "", 0) CALL(fcntl, OWN, "", 0)
@@ -32,10 +32,10 @@ CALL(inotify_init, PASS, "", 0) CALL(inotify_init1, PASS, "", 0) CALL(inotify_ad
 GROUP("Effects in the tree", "`mknod`, `mount` and `setxattr` below a task's root, from its folders, behind `setns`, and with `--same-root` anywhere", "pipes, sockets and files of the run", "devices and mounts elsewhere; from another folder than the last one that was opened")
 CALL(mknod, OWN, "", 1) CALL(mknodat, OWN, "", 1) CALL(mount, OWN, "", 1) CALL(setxattr, OWN, "", 1)
 
-GROUP("Questions about the tree", "the kind, the device and the node's number of what stands below a task's root", "other files", "owners, modes, times, attributes and the file system of such a node")
+GROUP("Questions about the tree", "the kind, the device and the node's number of what stands below a task's root; its file system, without type and sizes", "other files", "access by owner and mode, and attributes of such a node")
 CALL(stat, OWN, "", 0) CALL(lstat, OWN, "", 0) CALL(fstat, OWN, "", 0) CALL(newfstatat, OWN, "", 0) CALL(statx, OWN, "", 0)
 CALL(access, OWN, "", 0) CALL(faccessat, OWN, "", 0) CALL(faccessat2, OWN, "", 0) CALL(readlink, OWN, "", 0) CALL(readlinkat, OWN, "", 0)
-CALL(statfs, LOOK, "r", 0) CALL(fstatfs, LOOK, "f", 0) CALL(getxattr, LOOK, "r", 0) CALL(lgetxattr, LOOK, "r", 0) CALL(fgetxattr, LOOK, "f", 0)
+CALL(statfs, OWN, "", 0) CALL(fstatfs, OWN, "f", 0) CALL(getxattr, LOOK, "r", 0) CALL(lgetxattr, LOOK, "r", 0) CALL(fgetxattr, LOOK, "f", 0)
 CALL(listxattr, LOOK, "r", 0) CALL(llistxattr, LOOK, "r", 0) CALL(flistxattr, LOOK, "f", 0)
 
 GROUP("Changing files", "", "below the run's folder and each `--writable FOLDER`", "elsewhere, and of tasks")
@@ -46,7 +46,7 @@ CALL(lchown, LOOK, "e", 1) CALL(fchownat, LOOK, "dw", 1) CALL(utime, LOOK, "w", 
 CALL(lsetxattr, LOOK, "e", 1) CALL(fsetxattr, LOOK, "m", 1) CALL(removexattr, LOOK, "w", 1) CALL(lremovexattr, LOOK, "e", 1) CALL(fremovexattr, LOOK, "m", 1)
 CALL(chdir, OWN, "", 0) CALL(fchdir, OWN, "", 0) CALL(getcwd, PASS, "", 0) CALL(umask, PASS, "", 0)
 
-GROUP("Processes", "`pidfd_open` of a task, `pidfd_getfd` of its folders, `poll` of its end, signal 0; `setns` to its mount namespace, `chroot` to its root", "children, threads, programs linked with the same C library; signals to the broker's own processes", "other signals and PIDs; static programs; `setsid`; new namespaces; `ptrace`")
+GROUP("Processes", "`pidfd_open` of a task, `pidfd_getfd` of what it has open in the tree, `poll` of its end, signal 0; `setns` to its mount namespace, `chroot` to its root", "children, threads, programs linked with the same C library; signals to the broker's own processes", "other signals and PIDs; static programs; `setsid`; new namespaces; `ptrace`")
 CALL(pidfd_open, OWN, "", 1) CALL(pidfd_getfd, OWN, "", 1) CALL(pidfd_send_signal, OWN, "", 1) CALL(setns, OWN, "", 1) CALL(chroot, OWN, "", 1)
 CALL(clone, OWN, "", 0) CALL(clone3, OWN, "", 0) CALL(fork, OWN, "", 0) CALL(vfork, OWN, "", 0) CALL(execve, OWN, "", 0) CALL(execveat, OWN, "", 0)
 CALL(exit, PASS, "", 0) CALL(exit_group, PASS, "", 0) CALL(wait4, PASS, "", 0) CALL(waitid, OWN, "", 0)

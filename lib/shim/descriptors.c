@@ -114,7 +114,7 @@ static void make_gone(void) {
 }
 
 static bool is_folder(const struct handle *handle) {
-  return handle->kind == ROOT || handle->kind == DIRECTORY || handle->kind == PROC_FOLDER || (handle->kind == NODE && handle->node.kind == S_IFDIR);
+  return handle->kind == ROOT || handle->kind == DIRECTORY || handle->kind == PROC_FOLDER || handle->kind == THREADS || (handle->kind == NODE && handle->node.kind == S_IFDIR);
 }
 
 long handle_for(struct handle handle, int flags) {

@@ -14,8 +14,9 @@ enum kind {
   MEMORY,
   ROOT,
   DIRECTORY,
-  /* /proc/PID itself, a pidfd, and /proc/PID/ns/mnt */
+  /* /proc/PID itself, its folder of threads, a pidfd, and /proc/PID/ns/mnt */
   PROC_FOLDER,
+  THREADS,
   PIDFD,
   NAMESPACE,
   /* what stands in the container's tree */
@@ -29,11 +30,11 @@ struct handle {
   enum kind kind;
   unsigned seat;
   uint32_t pid;
-  /* of a folder: the task's descriptor, and the number of its opening; of a process: the key of the task */
+  /* of a memory and a folder: the number of its opening; of a folder the task's descriptor, too; of a process: the key of the task */
+  unsigned opening;
   int dirfd;
-  unsigned base;
   uint64_t task;
-  /* of a memory: where the next read begins; and how it was opened */
+  /* where the next read begins; and how it was opened */
   uint64_t offset;
   int flags;
   /* of a node */

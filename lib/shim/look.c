@@ -3,34 +3,24 @@
 #include "look.h"
 #include "broker.h"
 #include "step.h"
-#include "telling.h"
-
-#define CAN(call, function)                                        \
-  do {                                                             \
-    connect_once(call);                                            \
-    if ((function) == NULL)                                        \
-      tell(call, "which needs `look`, a request that this library's client hasn't"); \
-  } while (0)
-
-#pragma GCC diagnostic ignored "-Waddress"
 
 long look_pid(const char *call, uint32_t pid, struct sb_task *task) {
-  CAN(call, sb_look_pid);
+  connect_once(call);
   return result_of(sb_look_pid(kernel, pid, task));
 }
 
 long look_fd(const char *call, uint32_t pid, uint32_t fd, struct sb_descriptor *leads) {
-  CAN(call, sb_look_fd);
+  connect_once(call);
   return result_of(sb_look_fd(kernel, pid, fd, leads));
 }
 
 long look_path(const char *call, uint32_t pid, int dirfd, const char *path, bool follow, struct sb_node *node) {
-  CAN(call, sb_look_path);
+  connect_once(call);
   return result_of(sb_look_path(kernel, pid, dirfd, path, follow, node));
 }
 
 long look_listener(const char *call) {
-  CAN(call, sb_look_listener);
+  connect_once(call);
   return result_of(sb_look_listener(kernel));
 }
 

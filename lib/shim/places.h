@@ -45,7 +45,6 @@ struct entered {
   bool is_there;
   unsigned seat;
   uint32_t pid;
-  uint64_t task;
 };
 extern struct entered entered;
 

@@ -1,7 +1,7 @@
 /*
  * shim.c - lets a broker as it is, which makes its calls of Linux, serve the written kernel
  *
- * A library that is preloaded (ld.so(8), LD_PRELOAD); tools/make-shim makes it, and tools/explore-broker --shim uses it. Every system call of the process is trapped inside the process (gate.c), and answered by the
+ * A library that is preloaded (ld.so(8), LD_PRELOAD); make-shim makes it, and explore-broker --shim uses it. Every system call of the process is trapped inside the process (gate.c), and answered by the
  * kernel that SECCOMP_BROKER_KERNEL names, made as it is, or told: then the broker ends with status 125 and a line with the call's name. call_list.h says of each call which of these it is. What is made as it is
  * concerns the process alone, reads the machine's files, or changes what is the run's: below the folders that SECCOMP_BROKER_WRITABLE names, memory files, pipes and terminals.
  *

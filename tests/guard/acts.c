@@ -6,7 +6,7 @@
  * It does NAME of acts.h to the process VICTIM, or to the folder FOLDER, and writes its result to the file OUT. RUN is a folder that it may change, PROGRAMS one with programs, and PORT that at which
  * the victim listens. It denies each call that it is notified of.
  *
- * Nothing here may be run but by tools/check-guard, which has a victim of its own for each, in namespaces of their own.
+ * Nothing here may be run but by tools/checks/check-guard, which has a victim of its own for each, in namespaces of their own.
  */
 #define _GNU_SOURCE
 #include <arpa/inet.h>

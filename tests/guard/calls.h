@@ -9,6 +9,19 @@ CALL(sys_pvm_readv, {
   struct iovec lo = {buffer, 10};
   tell(syscall(SYS_process_vm_readv, notif.pid, &lo, 1, &re, 1, 0));
 })
+CALL(pvm_readv_parts, {
+  struct iovec re[] = {{(void *)0x10000, 4}, {(void *)0x10004, 5}};
+  struct iovec lo[] = {{buffer, 2}, {buffer + 2, 0}, {buffer + 2, 100}};
+  memset(buffer, 0, sizeof buffer);
+  tell(process_vm_readv(notif.pid, lo, 3, re, 2, 0));
+  tell_of("text", strcmp(buffer, "/dev/null") == 0);
+})
+CALL(pvm_readv_unmapped, {
+  struct iovec re = {(void *)0x90000, 10};
+  struct iovec lo = {buffer, 10};
+  tell(process_vm_readv(notif.pid, &lo, 1, &re, 1, 0));
+})
+CALL(pvm_readv_nothing, { tell(process_vm_readv(notif.pid, NULL, 0, NULL, 0, 0)); })
 CALL(pvm_writev, {
   struct iovec re = {(void *)0x10000, 10};
   struct iovec lo = {buffer, 10};
@@ -97,6 +110,30 @@ CALL(scandir_fd, {
   struct dirent **d;
   tell(scandir(path_of("fd"), &d, NULL, NULL));
 })
+CALL(scandir_task, {
+  struct dirent **d;
+  int count = scandir(path_of("task"), &d, NULL, alphasort);
+  tell(count);
+  for (int at = 0; at < count; at++)
+    fprintf(out, "%s%s", at == 0 ? "" : " ", d[at]->d_name);
+  fprintf(out, "\n");
+  fflush(out);
+})
+CALL(stat_task, {
+  struct stat st;
+  tell(stat(path_of("task"), &st));
+  tell_of("links", (long)st.st_nlink);
+})
+CALL(rewinddir_task, {
+  DIR *d = opendir(path_of("task"));
+  int count = 0;
+  while (readdir(d) != NULL)
+    ;
+  rewinddir(d);
+  while (readdir(d) != NULL)
+    count++;
+  tell(count);
+})
 CALL(kill0, { tell(kill(notif.pid, 0)); })
 CALL(tgkill, { tell(tgkill(notif.pid, notif.pid, 0)); })
 CALL(sys_kill, { tell(syscall(SYS_kill, notif.pid, 0)); })
@@ -116,6 +153,14 @@ CALL(openat_rootfd, { tell(openat(root, "dev", O_PATH)); })
 CALL(openat2_rootfd, {
   struct open_how h = { .flags = O_PATH, .resolve = RESOLVE_IN_ROOT };
   tell(syscall(SYS_openat2, root, "dev", &h, sizeof h));
+})
+CALL(openat2_absolute, {
+  struct open_how h = { .flags = O_PATH, .resolve = RESOLVE_IN_ROOT };
+  tell(syscall(SYS_openat2, root, "/dev", &h, sizeof h));
+})
+CALL(openat2_cwd_dots, {
+  struct open_how h = { .flags = O_PATH, .resolve = RESOLVE_IN_ROOT };
+  tell(syscall(SYS_openat2, cwd, "../dev", &h, sizeof h));
 })
 CALL(open_tree, { tell(syscall(SYS_open_tree, root, "dev", 0)); })
 CALL(open_tree_libc, { tell(open_tree(root, "dev", 0)); })
@@ -139,6 +184,21 @@ CALL(fstat_rootfd, {
   tell(fstat(root, &st));
   tell_of("kind", st.st_mode & S_IFMT);
 })
+CALL(fstat_procdir, {
+  struct stat st;
+  tell(fstat(open(path_of(""), O_PATH | O_DIRECTORY), &st));
+  tell_of("kind", (long)(st.st_mode & S_IFMT));
+})
+CALL(fstat_listener, {
+  struct stat st;
+  tell(fstat(LISTENER, &st));
+  tell_of("kind", st.st_mode & S_IFMT);
+})
+CALL(fstatfs_listener, {
+  struct statfs sf;
+  tell(fstatfs(LISTENER, &sf));
+  tell_of("type", sf.f_type);
+})
 CALL(fstat_memfd, {
   struct stat st;
   tell(fstat(mem, &st));
@@ -147,14 +207,31 @@ CALL(fstat_memfd, {
 CALL(fstatfs_rootfd, {
   struct statfs sf;
   tell(fstatfs(root, &sf));
+  tell_of("type", sf.f_type);
 })
 CALL(statfs_rootpath, {
   struct statfs sf;
   tell(statfs(path_of("root/dev"), &sf));
+  tell_of("type", sf.f_type);
 })
 CALL(statvfs_rootpath, {
   struct statvfs sv;
   tell(statvfs(path_of("root/dev"), &sv));
+  tell_of("longest", (long)sv.f_namemax);
+})
+CALL(statfs_procdir, {
+  struct statfs sf;
+  tell(statfs(path_of(""), &sf));
+  tell_of("type", sf.f_type);
+})
+CALL(fstatfs_mem, {
+  struct statfs sf;
+  tell(fstatfs(mem, &sf));
+  tell_of("type", sf.f_type);
+})
+CALL(statfs_none, {
+  struct statfs sf;
+  tell(statfs(path_of("root/none"), &sf));
 })
 CALL(fchownat_rootfd, { tell(fchownat(root, "dev/null", 0, 0, 0)); })
 CALL(fchmodat_rootfd, { tell(fchmodat(root, "dev/null", 0666, 0)); })
@@ -223,6 +300,10 @@ CALL(mem_second_open, {
   tell(open(path_of("mem"), O_RDONLY));
 })
 CALL(mem_twice_held, { tell(open(path_of("mem"), O_RDONLY)); })
+CALL(mem_not_the_last, {
+  open(path_of("mem"), O_RDONLY);
+  tell(pread(mem, buffer, 10, 0x10000));
+})
 CALL(sys_openat_mem, { tell(syscall(SYS_openat, AT_FDCWD, path_of("mem"), O_RDONLY)); })
 CALL(sys_open_mem, { tell(syscall(SYS_open, path_of("mem"), O_RDONLY)); })
 CALL(sys_pread_mem, { tell(syscall(SYS_pread64, mem, buffer, 10, 0x10000)); })
@@ -277,6 +358,15 @@ CALL(fork_exec, {
   int s;
   waitpid(c, &s, 0);
   tell(s);
+})
+CALL(exec_with_listener, {
+  pid_t child = fork();
+  if (child == 0) {
+    execl("/proc/self/exe", "calls", "none", "/dev/null", NULL);
+    _exit(1);
+  }
+  int status;
+  tell(waitpid(child, &status, 0) == child ? 0 : -1);
 })
 CALL(vfork_exec, {
   pid_t c = vfork();

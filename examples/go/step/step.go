@@ -7,8 +7,8 @@
 // ended) and EPROTO (its answer can't be understood). The calls of one Kernel are for one goroutine at a time.
 //
 // Where the variable SECCOMP_BROKER_KERNEL names a Unix socket, Open connects there and starts no program: another one holds the kernel and steps the
-// tasks, as tools/explore-broker does. Then a call that would wait waits. Where SECCOMP_BROKER_SESSION names a file, requests and answers are written
-// there, for tools/judge-slowly.
+// tasks, as explore-broker does. Then a call that would wait waits. Where SECCOMP_BROKER_SESSION names a file, requests and answers are written
+// there, for reference-judge.
 package step
 
 import (
@@ -22,6 +22,7 @@ import (
 	"net"
 	"os"
 	"os/exec"
+	"regexp"
 	"strconv"
 	"strings"
 	"syscall"
@@ -85,6 +86,29 @@ type Mount struct {
 	Shift                bool
 }
 
+// Task is a task as a look sees it: the PID of its parent while that lives, else 0; and `running`, `sleeping`, `disk-sleep` or `zombie`.
+type Task struct {
+	Name  string
+	Ppid  uint32
+	State string
+}
+
+// Node is a node of the container's tree. No other node gets its ordinal. Its kind is `dir`, `reg`, `link`, `fifo`, `sock`, `chr` or `blk`; a device has
+// numbers, and a link a target.
+type Node struct {
+	Ordinal      uint32
+	Kind         string
+	Major, Minor uint32
+	Target       string
+}
+
+// Object is what a descriptor leads to: `none`, `console`, a `file` of the broker's by its number there, or a `node`.
+type Object struct {
+	Kind string
+	File uint32
+	Node Node
+}
+
 var errnos = map[string]syscall.Errno{
 	"EPERM": syscall.EPERM, "ENOENT": syscall.ENOENT, "ESRCH": syscall.ESRCH, "EINTR": syscall.EINTR, "E2BIG": syscall.E2BIG, "EBADF": syscall.EBADF,
 	"ECHILD": syscall.ECHILD, "EAGAIN": syscall.EAGAIN, "EACCES": syscall.EACCES, "EFAULT": syscall.EFAULT, "EBUSY": syscall.EBUSY, "EEXIST": syscall.EEXIST,
@@ -94,9 +118,8 @@ var errnos = map[string]syscall.Errno{
 }
 
 var refusals = map[string]syscall.Errno{
-	"no task": syscall.ESRCH, "worker": syscall.ECHRNG, "memory is open": syscall.EBUSY, "no memory is open": syscall.EBADF, "request is put": syscall.EALREADY,
-	"no request": syscall.ENOMSG, "closed": syscall.ESHUTDOWN, "long line": syscall.EMSGSIZE,
-	"full": syscall.EFBIG,
+	"no task": syscall.ESRCH, "worker": syscall.ECHRNG, "no memory is open": syscall.EBADF, "request is put": syscall.EALREADY, "no request": syscall.ENOMSG,
+	"closed": syscall.ESHUTDOWN, "long line": syscall.EMSGSIZE, "full": syscall.EFBIG,
 }
 
 // errnoNamed gives the error of a name as ENOENT or E999, or 0.
@@ -331,6 +354,116 @@ func (k *Kernel) text(request, word string) (string, error) {
 	return string(bytes), nil
 }
 
+// LookPid gives the task that holds a PID. ESRCH: nobody does. A look is no event: nothing happens by it.
+func (k *Kernel) LookPid(pid uint32) (Task, error) {
+	var task Task
+	answer, err := k.ask(fmt.Sprintf("look pid %d", pid))
+	if err != nil {
+		return task, err
+	}
+	if answer == "look none" {
+		return task, &Error{syscall.ESRCH, answer}
+	}
+	if _, err := fmt.Sscanf(answer, "look task %s ppid %d state %s", &task.Name, &task.Ppid, &task.State); err != nil {
+		return task, &Error{syscall.EPROTO, answer}
+	}
+	return task, nil
+}
+
+// LookFd gives what a descriptor of the task that holds a PID leads to. Nothing is there where it isn't open, where nobody holds the PID, and where the task
+// has ended.
+func (k *Kernel) LookFd(pid, number uint32) (Object, error) {
+	answer, err := k.ask(fmt.Sprintf("look fd %d %d", pid, number))
+	if err != nil {
+		return Object{}, err
+	}
+	_, told, _ := strings.Cut(answer, " ")
+	kind, rest, _ := strings.Cut(told, " ")
+	object := Object{Kind: kind}
+	switch kind {
+	case "none", "console":
+		return object, nil
+	case "node":
+		object.Node, err = nodeOf(rest, answer)
+		return object, err
+	case "file":
+		_, err = fmt.Sscanf(rest, "%d", &object.File)
+	default:
+		err = syscall.EPROTO
+	}
+	if err != nil {
+		return object, &Error{syscall.EPROTO, answer}
+	}
+	return object, nil
+}
+
+// LookPath gives the node to which a path leads that the task which holds a PID would walk; a link at its end is followed, or is itself the node. ESRCH, EBADF,
+// ENOENT, ENOTDIR, ELOOP, ENAMETOOLONG.
+func (k *Kernel) LookPath(pid uint32, dirfd int, path string, follows bool) (Node, error) {
+	how := "nofollow"
+	if follows {
+		how = "follow"
+	}
+	answer, err := k.ask(fmt.Sprintf("look path %d %d %s %s", pid, dirfd, quoted(path), how))
+	if err != nil {
+		return Node{}, err
+	}
+	if word := strings.TrimPrefix(answer, "look error "); word != answer {
+		if errno := errnoNamed(word); errno != 0 {
+			return Node{}, &Error{errno, answer}
+		}
+		return Node{}, &Error{syscall.EPROTO, answer}
+	}
+	return nodeOf(strings.TrimPrefix(answer, "look node "), answer)
+}
+
+// LookListener tells what poll(2) of the listener gives: whether a call waits to be received (POLLIN), and whether one was received and waits for its answer
+// (POLLOUT).
+func (k *Kernel) LookListener() (input, output bool, err error) {
+	answer, err := k.ask("look listener")
+	if err != nil {
+		return false, false, err
+	}
+	var in, out int
+	if _, err := fmt.Sscanf(answer, "look in=%d out=%d", &in, &out); err != nil {
+		return false, false, &Error{syscall.EPROTO, answer}
+	}
+	return in == 1, out == 1, nil
+}
+
+// nodeOf reads the node that stands behind `look node `.
+func nodeOf(told, answer string) (Node, error) {
+	words := strings.SplitN(told, " ", 3)
+	node := Node{}
+	ordinal, err := strconv.ParseUint(words[0], 10, 32)
+	if err != nil || len(words) < 2 {
+		return node, &Error{syscall.EPROTO, answer}
+	}
+	node.Ordinal, node.Kind = uint32(ordinal), words[1]
+	if len(words) < 3 {
+		return node, nil
+	}
+	if node.Kind == "link" {
+		node.Target = unquoted(words[2])
+	} else if _, err := fmt.Sscanf(words[2], "%d:%d", &node.Major, &node.Minor); err != nil {
+		return node, &Error{syscall.EPROTO, answer}
+	}
+	return node, nil
+}
+
+// escape is a byte of a text as reports write it that isn't written as it is.
+var escape = regexp.MustCompile(`\\(x[0-9a-f]{2}|.)`)
+
+// unquoted gives a text that is written as in reports.
+func unquoted(text string) string {
+	return escape.ReplaceAllStringFunc(strings.TrimSuffix(strings.TrimPrefix(text, `"`), `"`), func(found string) string {
+		if number, err := strconv.ParseUint(found[2:], 16, 8); len(found) == 4 && err == nil {
+			return string([]byte{byte(number)})
+		}
+		return found[1:]
+	})
+}
+
 // CloseListener closes the listener, as the end of the broker does. Behind it only Report, Script, Judge, JudgeIdle and Close do something.
 func (k *Kernel) CloseListener() error {
 	_, err := k.ask("close")
@@ -428,7 +561,7 @@ func (s *Seat) LetGo() error {
 	return err
 }
 
-// OpenMem opens the memory of whoever has this PID by now (/proc/PID/mem): ESRCH, and EBUSY where one is open.
+// OpenMem opens the memory of whoever has this PID by now (/proc/PID/mem), in the place of one that is open: ESRCH.
 func (s *Seat) OpenMem(pid uint32) error { return s.do("open-mem %d", pid) }
 
 // Pread reads from the memory that is open, at most MostRead bytes, and as many as are mapped. EFAULT: none is.

@@ -109,10 +109,46 @@ func TestDescriptors(t *testing.T) {
 	}
 }
 
+func TestLooks(t *testing.T) {
+	kernel, seat := calls(t, true)
+	if task, err := kernel.LookPid(1); err != nil || task != (Task{"0", 0, "sleeping"}) {
+		t.Error(task, err)
+	}
+	_, err := kernel.LookPid(2)
+	wants(t, "nobody", err, syscall.ESRCH)
+	if input, output, err := kernel.LookListener(); err != nil || !input || output {
+		t.Error(input, output, err)
+	}
+	notif, err := seat.Recv()
+	if err != nil {
+		t.Fatal(err)
+	}
+	if input, output, err := kernel.LookListener(); err != nil || input || !output {
+		t.Error(input, output, err)
+	}
+	wants(t, "put", seat.Addfd(Addfd{ID: notif.ID, SrcFd: 5}), nil)
+	if _, err := kernel.Step("0"); err != nil {
+		t.Error(err)
+	}
+	for number, wanted := range []Object{{Kind: "console"}, {Kind: "console"}, {Kind: "console"}, {Kind: "file", File: 5}, {Kind: "none"}} {
+		if object, err := kernel.LookFd(1, uint32(number)); err != nil || object != wanted {
+			t.Error(number, object, err)
+		}
+	}
+	wants(t, "made", seat.Mknodat(AtFdcwd, "/look \"", 0o020666, 259), nil)
+	if node, err := kernel.LookPath(1, AtFdcwd, "look \"", false); err != nil || node.Kind != "chr" || node.Major != 1 || node.Minor != 3 {
+		t.Error(node, err)
+	}
+	_, err = kernel.LookPath(1, 4, "look", true)
+	wants(t, "no directory", err, syscall.EBADF)
+	_, err = kernel.LookPath(1, AtFdcwd, "/none", true)
+	wants(t, "no entry", err, syscall.ENOENT)
+}
+
 func TestMemory(t *testing.T) {
 	_, seat := calls(t, true)
 	wants(t, "open", seat.OpenMem(1), nil)
-	wants(t, "open twice", seat.OpenMem(1), syscall.EBUSY)
+	wants(t, "open twice", seat.OpenMem(1), nil)
 	path := make([]byte, 8)
 	if count, err := seat.Pread(path, 0x10000); err != nil || count != 8 || string(path[:5]) != "/log\x00" {
 		t.Error(count, err, path)

@@ -18,8 +18,8 @@
 //! (the program has ended) and `EPROTO` (its answer can't be understood). [`Kernel::answer`] is what the program said.
 //!
 //! Where the variable `SECCOMP_BROKER_KERNEL` names a Unix socket, [`Kernel::open`] connects there and starts no program: another one holds the kernel and
-//! steps the tasks, as `tools/explore-broker` does. Then a call that would wait waits. Where `SECCOMP_BROKER_SESSION` names a file, requests and answers
-//! are written there, for `tools/judge-slowly`.
+//! steps the tasks, as `explore-broker` does. Then a call that would wait waits. Where `SECCOMP_BROKER_SESSION` names a file, requests and answers
+//! are written there, for `reference-judge`.
 use std::env;
 use std::ffi::{OsStr, OsString};
 use std::fmt::Write as _;
@@ -102,10 +102,9 @@ const ERRORS: [(&str, i32); 23] = [
     ("EDQUOT", EDQUOT),
 ];
 
-const REFUSALS: [(&str, i32); 9] = [
+const REFUSALS: [(&str, i32); 8] = [
     ("no task", ESRCH),
     ("worker", ECHRNG),
-    ("memory is open", EBUSY),
     ("no memory is open", EBADF),
     ("request is put", EALREADY),
     ("no request", ENOMSG),
@@ -155,6 +154,120 @@ pub struct Mount<'a> {
     pub data: &'a [u8],
     pub via: &'a [u8],
     pub shift: bool,
+}
+
+/// How a task is, by the words of `/proc/PID/status`.
+#[derive(Clone, Copy, Debug, PartialEq, Eq)]
+pub enum TaskState {
+    Running,
+    Sleeping,
+    /// It waits in a call that was received, and only a fatal signal ends that.
+    DiskSleep,
+    Zombie,
+}
+
+/// A task as a look sees it: its name, the PID of its parent while that lives, else 0, and how it is.
+#[derive(Clone, Debug, PartialEq, Eq)]
+pub struct Task {
+    pub name: String,
+    pub ppid: u32,
+    pub state: TaskState,
+}
+
+/// The kind of a node (inode(7)), with the numbers of a device or the target of a link.
+#[derive(Clone, Debug, PartialEq, Eq)]
+pub enum Kind {
+    Directory,
+    Regular,
+    Link(Vec<u8>),
+    Fifo,
+    Socket,
+    Character(u32, u32),
+    Block(u32, u32),
+}
+
+/// A node of the container's tree. No other node gets its ordinal.
+#[derive(Clone, Debug, PartialEq, Eq)]
+pub struct Node {
+    pub ordinal: u32,
+    pub kind: Kind,
+}
+
+/// What an open descriptor leads to.
+#[derive(Clone, Debug, PartialEq, Eq)]
+pub enum Object {
+    Console,
+    /// A file of the broker's, by its number there.
+    File(u32),
+    Node(Node),
+}
+
+/// Which calls of poll(2) the listener is ready for: a call waits to be received (`POLLIN`), one was received and waits for its answer (`POLLOUT`).
+#[derive(Clone, Copy, Debug, PartialEq, Eq)]
+pub struct Readiness {
+    pub input: bool,
+    pub output: bool,
+}
+
+/// The bytes of a text as reports write it.
+fn unquoted(text: &str) -> Option<Vec<u8>> {
+    let mut rest = text.strip_prefix('"')?.strip_suffix('"')?.bytes();
+    let mut found = Vec::new();
+    while let Some(byte) = rest.next() {
+        let escaped = if byte == b'\\' { rest.next()? } else { byte };
+        if byte == b'\\' && escaped == b'x' {
+            let digits = [rest.next()?, rest.next()?];
+            found.push(u8::from_str_radix(std::str::from_utf8(&digits).ok()?, 16).ok()?);
+        } else {
+            found.push(escaped);
+        }
+    }
+    Some(found)
+}
+
+fn kind_of(word: &str, rest: &str) -> Option<Kind> {
+    let device = || rest.split_once(':').and_then(|(major, minor)| Some((major.parse().ok()?, minor.parse().ok()?)));
+    Some(match word {
+        "dir" => Kind::Directory,
+        "reg" => Kind::Regular,
+        "link" => Kind::Link(unquoted(rest)?),
+        "fifo" => Kind::Fifo,
+        "sock" => Kind::Socket,
+        "chr" => device().map(|(major, minor)| Kind::Character(major, minor))?,
+        "blk" => device().map(|(major, minor)| Kind::Block(major, minor))?,
+        _ => return None,
+    })
+}
+
+/// The node that stands behind `look node ` in an answer.
+fn node_of(told: &str) -> Option<Node> {
+    let (ordinal, kind) = told.split_once(' ')?;
+    let (word, rest) = kind.split_once(' ').unwrap_or((kind, ""));
+    Some(Node { ordinal: ordinal.parse().ok()?, kind: kind_of(word, rest)? })
+}
+
+fn task_of(told: &str) -> Option<Task> {
+    let words: Vec<&str> = told.split(' ').collect();
+    let &["look", "task", name, "ppid", ppid, "state", state] = words.as_slice() else {
+        return None;
+    };
+    let state = match state {
+        "running" => TaskState::Running,
+        "sleeping" => TaskState::Sleeping,
+        "disk-sleep" => TaskState::DiskSleep,
+        "zombie" => TaskState::Zombie,
+        _ => return None,
+    };
+    Some(Task { name: name.to_owned(), ppid: ppid.parse().ok()?, state })
+}
+
+fn object_of(told: &str) -> Option<Object> {
+    match told.strip_prefix("look ")?.split_once(' ') {
+        None if told == "look console" => Some(Object::Console),
+        Some(("file", number)) => Some(Object::File(number.parse().ok()?)),
+        Some(("node", node)) => Some(Object::Node(node_of(node)?)),
+        _ => None,
+    }
 }
 
 fn failed<T>(errno: i32) -> io::Result<T> {
@@ -374,6 +487,41 @@ impl Kernel {
         Ok(text)
     }
 
+    /// What a look sees, by the answer to it. A look is no event: nothing happens by it.
+    fn look<T>(&mut self, request: &[u8], seen: impl Fn(&str) -> Option<T>) -> io::Result<T> {
+        let told = self.ask(request)?;
+        match told.strip_prefix("look error ") {
+            Some(name) => failed(error_named(name).unwrap_or(EPROTO)),
+            None => seen(told).map_or_else(|| failed(EPROTO), Ok),
+        }
+    }
+
+    /// The task that holds a PID, if one does.
+    pub fn look_pid(&mut self, pid: u32) -> io::Result<Option<Task>> {
+        self.look(format!("look pid {pid}").as_bytes(), |told| if told == "look none" { Some(None) } else { task_of(told).map(Some) })
+    }
+
+    /// What a descriptor of the task that holds a PID leads to: `None` where it isn't open, where nobody holds the PID, and where the task has ended.
+    pub fn look_fd(&mut self, pid: u32, number: u32) -> io::Result<Option<Object>> {
+        self.look(format!("look fd {pid} {number}").as_bytes(), |told| if told == "look none" { Some(None) } else { object_of(told).map(Some) })
+    }
+
+    /// Where a path leads that the task which holds a PID would walk; a link at its end is followed, or is itself the node. `ESRCH`, `EBADF`, `ENOENT`,
+    /// `ENOTDIR`, `ELOOP`, `ENAMETOOLONG`.
+    pub fn look_path(&mut self, pid: u32, dirfd: i32, path: &[u8], follows: bool) -> io::Result<Node> {
+        let how: &[u8] = if follows { b"follow" } else { b"nofollow" };
+        let request = [format!("look path {pid} {dirfd} ").as_bytes(), &quoted(path), b" ", how].concat();
+        self.look(&request, |told| node_of(told.strip_prefix("look node ")?))
+    }
+
+    /// What poll(2) of the listener gives.
+    pub fn look_listener(&mut self) -> io::Result<Readiness> {
+        self.look(b"look listener", |told| {
+            let (input, output) = told.strip_prefix("look in=")?.split_once(" out=")?;
+            Some(Readiness { input: input == "1", output: output == "1" })
+        })
+    }
+
     /// Closes the listener, as the end of the broker does. Behind it only a report, a script, a judgement and the close of the kernel do something.
     pub fn close_listener(&mut self) -> io::Result<()> {
         self.ask(b"close").map(drop)
@@ -459,7 +607,7 @@ impl Seat<'_> {
 
     // ---- the caller's memory (proc(5))
 
-    /// Opens the memory of whoever has this PID by now: `ESRCH`, and `EBUSY` where one is open.
+    /// Opens the memory of whoever has this PID by now, in the place of one that is open: `ESRCH`.
     pub fn open_mem(&mut self, pid: u32) -> io::Result<()> {
         self.act(&[b"open-mem", pid.to_string().as_bytes()])
     }

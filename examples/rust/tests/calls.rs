@@ -1,5 +1,5 @@
 //! Each call, and what a broker comes to whose caller dies. `SECCOMP_BROKER` names the program, if it isn't `seccomp-broker` on the PATH.
-use seccomp_step::{errno::*, Addfd, Kernel, Mount, Response, ADDFD_SEND, AT_FDCWD, MOST_READ};
+use seccomp_step::{errno::*, Addfd, Kernel, Kind, Mount, Node, Object, Readiness, Response, Task, TaskState, ADDFD_SEND, AT_FDCWD, MOST_READ};
 use std::io;
 
 const POLICY: &str = "../own-broker/policy.json";
@@ -75,10 +75,32 @@ fn descriptors() {
 }
 
 #[test]
+fn looks() {
+    let mut kernel = asked();
+    assert_eq!(kernel.look_pid(1).unwrap(), Some(Task { name: "0".to_owned(), ppid: 0, state: TaskState::Sleeping }));
+    assert_eq!(kernel.look_pid(2).unwrap(), None);
+    assert_eq!(kernel.look_listener().unwrap(), Readiness { input: true, output: false });
+    let id = kernel.seat(0).recv().unwrap().id;
+    assert_eq!(kernel.look_listener().unwrap(), Readiness { input: false, output: true });
+    kernel.seat(0).addfd(&Addfd { id, srcfd: 5, ..Addfd::default() }).unwrap();
+    assert_eq!(kernel.look_pid(1).unwrap().unwrap().state, TaskState::Running);
+    kernel.step("0").unwrap();
+    assert_eq!(kernel.look_fd(1, 0).unwrap(), Some(Object::Console));
+    assert_eq!(kernel.look_fd(1, 3).unwrap(), Some(Object::File(5)));
+    assert_eq!(kernel.look_fd(1, 4).unwrap(), None);
+    assert_eq!(kernel.look_path(1, AT_FDCWD, b"/", true).unwrap(), Node { ordinal: 0, kind: Kind::Directory });
+    kernel.seat(0).mknodat(AT_FDCWD, b"/look \"", 0o020666, 259).unwrap();
+    assert_eq!(kernel.look_path(1, AT_FDCWD, b"look \"", false).unwrap().kind, Kind::Character(1, 3));
+    fails(kernel.look_path(1, 4, b"look", true), EBADF);
+    fails(kernel.look_path(2, AT_FDCWD, b"/", true), ESRCH);
+    fails(kernel.look_path(1, AT_FDCWD, b"", true), ENOENT);
+}
+
+#[test]
 fn memory() {
     let mut kernel = asked();
     kernel.seat(0).open_mem(1).unwrap();
-    fails(kernel.seat(0).open_mem(1), EBUSY);
+    kernel.seat(0).open_mem(1).unwrap();
     assert_eq!(kernel.seat(0).pread(8, 0x10000).unwrap(), b"/log\0\0\0\0");
     assert_eq!(kernel.seat(0).pread(2 * MOST_READ, 0x10000).unwrap().len(), MOST_READ);
     assert_eq!(kernel.seat(0).pread(64, 0x1fff0).unwrap().len(), 16);
