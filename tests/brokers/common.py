@@ -8,6 +8,7 @@ import os
 import stat
 import sys
 from enum import Enum
+from itertools import islice
 from pathlib import Path
 
 sys.path.insert(0, str(Path(__file__).resolve().parents[2] / "examples/python"))
@@ -16,7 +17,7 @@ from seccomp_step import CONTINUE, Kernel  # noqa: E402
 SYS_MKNOD, SYS_OPENAT = 133, 257
 HARMLESS = {(0, 0), (1, 3), (1, 5), (1, 7), (1, 8), (1, 9), (5, 0), (5, 1)}
 LOG = 5
-PATH_MAX, PIECE = 4096, 256
+PATH_MAX, PIECE, SEATS = 4096, 256, 16
 
 
 class CallerGone(Exception):
@@ -146,17 +147,22 @@ class Broker:
             self.seat.send(notif.id, error=errno.EMFILE)
 
 
-def receive_all(kernel):
-    """Waits for a call, and receives all that are there by then, each with a broker whose seat has it in hand. None once the listener is closed."""
-    found = []
-    for notif in kernel.seat(0).notifications():
-        found.append((Broker(kernel, len(found)), notif))
-        break
-    while found and kernel.is_notified():
-        try:
-            found.append((Broker(kernel, len(found)), kernel.seat(len(found)).recv()))
-        except FileNotFoundError:
+def received_now(seat):
+    """The call that a poll has told of, or None where that has gone."""
+    try:
+        return seat.recv()
+    except FileNotFoundError:
+        return None
+
+
+def receive(kernel, most=SEATS):
+    """Waits for a call, and receives all that are there by then, so many at most, each with a broker whose seat has it in hand. None once the listener is closed."""
+    found = [(Broker(kernel), notif) for notif in islice(kernel.seat(0).notifications(), 1)]
+    while 0 < len(found) < most and kernel.is_notified():
+        notif = received_now(kernel.seat(len(found)))
+        if notif is None:
             break
+        found.append((Broker(kernel, len(found)), notif))
     return found
 
 

@@ -1,19 +1,21 @@
 """An agent as it would run behind crun or runc: it waits at a Unix socket for the listener of a container (OCI runtime specification, Container process state), and makes the harmless devices that
 are asked for by mknod(2), but none below /kept. All other calls are left to the kernel. It makes its calls of Linux, with Python's own library alone.
 
-    listener_path.py [--no-second-check] [--watch] SOCKET
+    listener_path.py [--no-second-check] [--watch] [--pool] SOCKET
 
-With --watch it asks by epoll(7) whether there is a call before it receives one.
+With --watch it asks by epoll(7) whether there is a call before it receives one. With --pool two threads serve the calls, which it makes before it waits at the socket.
 """
 import ctypes
 import errno
 import fcntl
 import json
 import os
+import queue
 import selectors
 import socket
 import stat
 import sys
+import threading
 
 SYS_MKNOD = 133
 RECV, SEND, ID_VALID = 0xC0502100, 0xC0182101, 0x40082102
@@ -118,7 +120,25 @@ class Agent:
         return 0
 
 
+class Pool:
+    """Threads that serve the calls which they are given."""
+
+    def __init__(self, count):
+        self.given = queue.SimpleQueue()
+        for _ in range(count):
+            threading.Thread(target=self.work, daemon=True).start()
+
+    def work(self):
+        while True:
+            agent, notif = self.given.get()
+            try:
+                agent.serve(notif)
+            except (CallerGone, FileNotFoundError):
+                continue
+
+
 def main():
+    pool = Pool(2) if "--pool" in sys.argv else None
     state, listener = received_listener(sys.argv[-1])
     print(f"container {state['state']['id']}, whose first process is {state['pid']}, with the metadata {state['metadata']!r}", flush=True)
     agent = Agent(listener, "--no-second-check" not in sys.argv)
@@ -129,7 +149,10 @@ def main():
         try:
             if watched.get_map():
                 watched.select()
-            agent.serve(agent.receive())
+            if pool is None:
+                agent.serve(agent.receive())
+            else:
+                pool.given.put((agent, agent.receive()))
         except (CallerGone, FileNotFoundError):
             continue
 

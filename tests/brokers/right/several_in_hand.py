@@ -3,7 +3,7 @@ import sys
 from pathlib import Path
 
 sys.path.insert(0, str(Path(__file__).resolve().parents[1]))
-from common import CallerGone, Decision, decide, main, path_address, receive_all  # noqa: E402
+from common import CallerGone, Decision, decide, main, path_address, receive  # noqa: E402
 
 
 class SeveralInHand:
@@ -11,7 +11,7 @@ class SeveralInHand:
         self.kernel = kernel
 
     def run(self):
-        while hands := receive_all(self.kernel):
+        while hands := receive(self.kernel):
             copied = [(broker, notif, self.copy(broker, notif)) for broker, notif in hands]
             for broker, notif, copy in reversed(copied):
                 try:

@@ -3,7 +3,7 @@ import sys
 from pathlib import Path
 
 sys.path.insert(0, str(Path(__file__).resolve().parents[1]))
-from common import CallerGone, main, receive_all  # noqa: E402
+from common import CallerGone, main, receive  # noqa: E402
 
 
 class AnswersByPosition:
@@ -11,7 +11,7 @@ class AnswersByPosition:
         self.kernel = kernel
 
     def run(self):
-        while hands := receive_all(self.kernel):
+        while hands := receive(self.kernel):
             results = []
             for broker, notif in hands:
                 try:
