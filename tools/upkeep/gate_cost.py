@@ -3,7 +3,7 @@
     tools/upkeep/gate-cost [--write] [COMMAND ..]
 
 COMMAND is run in its place at the top of the repository; it is .ci/run, if none is named. Its processes, and those that they have started, are looked at
-twice a second. A process belongs to the crate that the toolchain's words name (--crate-name), or to the check of tools/ or .ci/ that it runs, or else to the one of the process
+twice a second. A process belongs to the crate that the toolchain's words name (--crate-name), or to the program of tools/ that it runs, or else to the one of the process
 that started it. Processes that come and go between two looks are missed: their seconds stand in the row "others".
 
 The table is printed behind what COMMAND says. With --write it replaces the one in docs/inside/PROOF.md, which is to be of a gate from nothing.
@@ -35,7 +35,7 @@ LOOK = 0.5
 LEAST = 30
 TICKS = os.sysconf("SC_CLK_TCK")
 CRATE = re.compile(rb"--crate-name\0(\w+)\0")
-CHECK = re.compile(rb"(?:^|\0|/)(?:tools|\.ci)/((?:check|compare|run|what|linux|failing)-[\w-]+|fuzz|sizes|cases|archive)\0")
+CHECK = re.compile(rb"(?:^|\0|/)tools/(?:checks|commands|upkeep)/([\w-]+)\0")
 
 
 class Process:
