@@ -135,7 +135,7 @@ request_of_numbered nr c =
     else if nr == nr_mknod then Mknod None (text_at c.texts 0) (natural_at c 0) (natural_at c 1)
     else if nr == nr_mount
     then Mount (text_at c.texts 0) (text_at c.texts 1) (text_at c.texts 2) (text_at c.texts 3) (text_at c.texts 4) (natural_at c 0)
-      (is_set_at c 1)
+    (is_set_at c 1)
     else if nr == nr_setxattr then SetXattr (text_at c.texts 0) (text_at c.texts 1) (text_at c.texts 2) (natural_at c 0)
     else if nr == nr_openat then OpenAt (number_at c 0) (text_at c.texts 0) (natural_at c 1)
     else if nr == nr_mknodat then Mknod (Some (number_at c 2)) (text_at c.texts 0) (natural_at c 0) (natural_at c 1)
