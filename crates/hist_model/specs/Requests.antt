@@ -9,7 +9,7 @@ use Rattle.call_table.specs.declared.kinds.CallText.{CallText}
 use Rattle.call_table.specs.declared.kinds.CallText.TheVariants.{Program}
 use Rattle.call_table.specs.declared.kinds.PathBase.{PathBase}
 use Rattle.call_table.specs.declared.kinds.PathBase.TheVariants.{Nowhere, WorkingDirectory, Register}
-use Rattle.call_table.specs.Table.{Row, row_of}
+use Rattle.call_table.specs.Table.{Row, base_by_row, row_of}
 pub use Rattle.sys_abi.specs.Devices.{major_of, minor_of}
 use Rattle.hist_model.specs.declared.policy.Rule.{Rule}
 use Rattle.hist_model.specs.declared.request.Kind.{Kind}
