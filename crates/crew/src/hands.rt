@@ -192,37 +192,43 @@ impl Hand {
         true
     }
 
-    /// What it does after a turn, behind the door; says whether all containers are over.
-    fn after_turn<W: Wait, G: Gate>(
-        &mut self,
-        rt: &W,
-        door: &Door,
-        gate: &G,
-        mut board: MutexGuard<'_, Board>,
-    ) -> bool
-        ensures passes { self.new.passes ≡ self.old.passes }
-        ensures worker { self.new.turn.errand.worker ≡ self.old.turn.errand.worker }
-    {
+    /// Notes behind the door what its turn left; says what it does next.
+    fn after_turn<W: Wait>(&self, rt: &W, door: &Door, board: &mut Board) -> Next {
         let turned = self.turn.turned;
-        if !self.note(rt, &mut board) {
+        if !self.note(rt, board) {
             board.give_up();
-            door.wake_all(&mut board);
-            return true;
+            door.wake_all(board);
+            return Next::End;
         }
         if turned.settled {
-            door.wake_settled(&mut board);
+            door.wake_settled(board);
         }
         match turned.came {
-            Came::Idle if turned.in_hand => return self.rest(rt, door, board),
-            Came::Reached { .. } => self.call(gate, door, board),
-            _ => self.leave(door, board),
+            Came::Idle if turned.in_hand => Next::Rest,
+            Came::Reached { .. } => Next::Call,
+            _ => Next::Turn,
         }
-        false
     }
 }
 
-/// What a hand does behind the door: a turn in a container that has work for it, or else it sleeps. Says whether all are over.
-fn take_turn<S: Crewed, W: Wait, G: Gate>(
+/// What a hand does after a turn.
+#[derive(Clone, Copy, Debug)]
+enum Next {
+    /// It takes another turn.
+    Turn,
+    /// It rests, as what it has in hand can't go on.
+    Rest,
+    /// It calls its gate.
+    Call,
+    /// It ends, since there was no memory.
+    End,
+}
+
+/// How many turns a hand takes behind the door, one after another, before it lets others in.
+const TURNS: u32 = 32;
+
+/// What a hand does behind the door: turns in containers that have work for it, or else it sleeps. Says whether all are over.
+fn take_turns<S: Crewed, W: Wait, G: Gate>(
     rt: &W,
     locks: &Vec<TurnLock<S>>,
     door: &Door,
@@ -237,15 +243,25 @@ fn take_turn<S: Crewed, W: Wait, G: Gate>(
 {
     let mut board = door.enter(rt);
     hand.come_in(door, &mut board);
-    match hand.choose(&board, door.containers) {
-        Some(container) => {
-            let work = board.work_in(container, &hand.duty);
-            let handed = board.hand_out(rt, container, work);
-            hand.turn_in(rt, locks, container, handed, work);
-            hand.after_turn(rt, door, gate, board)
+    for _ in 0..TURNS {
+        let Some(container) = hand.choose(&board, door.containers) else {
+            return hand.rest(rt, door, board);
+        };
+        let work = board.work_in(container, &hand.duty);
+        let handed = board.hand_out(rt, container, work);
+        hand.turn_in(rt, locks, container, handed, work);
+        match hand.after_turn(rt, door, &mut board) {
+            Next::Turn => {}
+            Next::Rest => return hand.rest(rt, door, board),
+            Next::Call => {
+                hand.call(gate, door, board);
+                return false;
+            }
+            Next::End => return true,
         }
-        None => hand.rest(rt, door, board),
     }
+    hand.leave(door, board);
+    false
 }
 
 /// Works until all containers are over.
@@ -262,7 +278,7 @@ fn work<S: Crewed, W: Wait, G: Gate>(
     ensures own { AreOf locks.now.items hand.new.passes.items }
 {
     for _ in rt.forever() {
-        if take_turn(rt, locks, door, gate, hand) {
+        if take_turns(rt, locks, door, gate, hand) {
             return;
         }
     }

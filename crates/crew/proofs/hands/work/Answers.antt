@@ -3,4 +3,4 @@ use Rattle.crew.specs.Locks.{Admits}
 use Rattle.crew.proofs.hands.work.Goals as goal
 
 pub loop-preserved : goal.loop-preserved
-loop-preserved g c = (c.take_turn.ensures.own, subst (λ (worker : Option ℕ). All (Admits worker) c.args.locks.now.items) (sym c.take_turn.ensures.worker) c.loop.invariant.1)
+loop-preserved g c = (c.take_turns.ensures.own, subst (λ (worker : Option ℕ). All (Admits worker) c.args.locks.now.items) (sym c.take_turns.ensures.worker) c.loop.invariant.1)
