@@ -1,6 +1,6 @@
 //! The door behind which threads take their turns, what they find there, and where those with nothing to do sleep.
 //!
-//! A thread takes its turn of a lock behind the door, and notes there which work is left. One that found nothing to do leaves the
+//! A thread takes its turns of locks behind the door, and notes there which work is left. One that found nothing to do leaves the
 //! door to the others while it sleeps, so that nothing happens between its look and its sleep.
 //!
 //! A thread is woken only for work that none which is awake is looking for: turns come one after another, so a second thread would
