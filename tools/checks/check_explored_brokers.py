@@ -18,6 +18,7 @@ import importlib.util
 import multiprocessing
 import os
 import shutil
+import signal
 import socket
 import subprocess
 import sys
@@ -26,8 +27,8 @@ from pathlib import Path
 from typing import NamedTuple
 
 from tools.checks.outside import module_at
-from tools.checks.tallies import Tally
-from tools.commands.command_line import arguments
+from tools.checks.tallies import Tally, ended_of
+from tools.commands.command_line import arguments, ending
 from tools.commands.command_line.arguments import ToolParser
 from tools.commands.exploring.bounds import Bounds
 from tools.commands.exploring.exploration import explore
@@ -43,7 +44,9 @@ Kernel = module_at(TOP / "examples/python/seccomp_step.py").Kernel
 Broker = module_at(BROKERS / "common.py").Broker
 clauses, slips, styles = (module_at(BROKERS / f"{name}.py") for name in ("clauses", "slips", "styles"))
 
-DELAYS, STYLE_DELAYS, PATIENCE = 3, 2, 60
+EXPLORE = TOP / "tools/commands/explore-broker"
+# how many seconds a process of a broker may take, and the tool behind an interrupt
+DELAYS, STYLE_DELAYS, PATIENCE, MOST_SECONDS = 3, 2, 60, 10
 WARNINGS = ["-std=c11", "-Wall", "-Wextra", "-Werror", "-O2"]
 SCRIPTS = ("reused", "rewritten", "restarted", "followed", "repeated", "together", "polled", "unmapped", "existing", "opened")
 
@@ -239,13 +242,24 @@ def report_of(program, script):
     return played.stdout.decode("latin-1")
 
 
+def script_at(name):
+    return BROKERS / f"scripts/{name}.txt"
+
+
+def told_by_tool(script, delays, *words, policy=BROKERS / "policy.json"):
+    """How the tool ends, with one run at once."""
+    return ended_of([EXPLORE, policy, script, delays, "--jobs", "1", *words])
+
+
+def python_broker(name):
+    return "--", sys.executable, "-B", path_of(name)
+
+
 def odd_trial(name):
     """What is wrong with what the tool tells of a broker that it can't explore."""
-    words = ["3", "--no-program", "--patience", "8", "--jobs", "1", "--", sys.executable, "-B", str(path_of(name))]
-    ended = subprocess.run([TOP / "tools/commands/explore-broker", BROKERS / "policy.json", BROKERS / "scripts/reused.txt", *words], stdin=subprocess.DEVNULL, capture_output=True, text=True)
     status, told = ODD[name]
-    right = ended.returncode == status and f"\n{told}" in ended.stdout
-    return f"an odd broker, {name}", None if right else f"status {ended.returncode}, and it says {ended.stdout or ended.stderr}"
+    ended = told_by_tool(script_at("reused"), "3", "--no-program", "--patience", "8", *python_broker(name))
+    return f"an odd broker, {name}", ended.unless(ended.status == status and f"\n{told}" in ended.out)
 
 
 def has_seccomp_header():
@@ -284,7 +298,7 @@ def agent_trial(name):
         command, wrong = command_of(agent, room)
         if wrong is not None:
             return name, wrong
-        words = ["2", "--no-program", "--jobs", "1", *agent.options]
+        words = ["2", "--no-program", *agent.options]
         if agent.source != "go":
             made = subprocess.run([TOP / "tools/commands/make-shim", f"{room}/shim.so"], stdin=subprocess.DEVNULL, capture_output=True, text=True)
             if made.returncode:
@@ -293,13 +307,12 @@ def agent_trial(name):
         if agent.is_passed:
             words += ["--listener-path", SOCKET, "--listener-metadata", METADATA]
         command += [*agent.words, *([SOCKET] if agent.is_passed else [])]
-        ended = subprocess.run([TOP / "tools/commands/explore-broker", BROKERS / "policy.json", BROKERS / f"scripts/{agent.script}.txt", *words, "--", *command], stdin=subprocess.DEVNULL, capture_output=True, text=True)
-    found = [line for line in ended.stdout.split("\n") if line.startswith(("broken ", "not supported: "))]
+        ended = told_by_tool(script_at(agent.script), *words, "--", *command)
+    found = [line for line in ended.out.split("\n") if line.startswith(("broken ", "not supported: "))]
     wanted = [begun for begun in agent.told if not begun.startswith("explored ")]
-    right = ended.returncode == agent.status and len(found) == len(wanted) and all(f"\n{begun}" in f"\n{ended.stdout}" for begun in agent.told)
+    right = ended.status == agent.status and len(found) == len(wanted) and all(f"\n{begun}" in f"\n{ended.out}" for begun in agent.told)
     # (what an agent says is told with what was found of it)
-    right = right and (not agent.is_passed or agent.status == 0 or METADATA in ended.stdout)
-    return name, None if right else f"status {ended.returncode}, and it says {ended.stdout or ended.stderr}"
+    return name, ended.unless(right and (not agent.is_passed or agent.status == 0 or METADATA in ended.out))
 
 
 def counted(asked):
@@ -315,30 +328,41 @@ def counted(asked):
 
 def two_instances(_):
     """Two processes of a right broker serve one container."""
-    words = ["1", "--no-program", "--instances", "2", "--jobs", "1", "--", sys.executable, "-B", str(path_of("one_large_read"))]
-    ended = subprocess.run([TOP / "tools/commands/explore-broker", BROKERS / "policy.json", BROKERS / "scripts/together.txt", *words], stdin=subprocess.DEVNULL, capture_output=True, text=True)
-    right = ended.returncode == 0 and " findings=0 whole=bound\n" in ended.stdout
-    return "two instances", None if right else f"status {ended.returncode}, and it says {ended.stdout or ended.stderr}"
+    ended = told_by_tool(script_at("together"), "1", "--no-program", "--instances", "2", *python_broker("one_large_read"))
+    return "two instances", ended.unless(ended.status == 0 and " findings=0 whole=bound\n" in ended.out)
 
 
 def listening(_):
     """A path at which somebody listens already is refused, and one at which nobody does is told."""
-    words = [TOP / "tools/commands/explore-broker", BROKERS / "policy.json", BROKERS / "scripts/reused.txt", "0", "--no-program", "--jobs", "1", "--patience", "2", "--listener-path"]
     with tempfile.TemporaryDirectory(prefix="explored-brokers-") as room, socket.socket(socket.AF_UNIX) as served:
         served.bind(f"{room}/served")
         served.listen(1)
-        refused, told = (subprocess.run([*words, f"{room}/{name}", "--", "sleep", "30"], stdin=subprocess.DEVNULL, capture_output=True, text=True) for name in ("served", "none"))
-    right = refused.returncode == 12 and refused.stdout == "" and "somebody listens at " in refused.stderr
-    right = right and told.returncode == 12 and "\nnot supported: instance 0: nobody waits for the listener at " in told.stdout
-    return "paths for the listener", None if right else f"they end with {refused.returncode} and {told.returncode}, and say {refused.stderr}{told.stdout}"
+        refused, told = (told_by_tool(script_at("reused"), "0", "--no-program", "--patience", "2", "--listener-path", f"{room}/{name}", "--", "sleep", "30") for name in ("served", "none"))
+    wrong = refused.unless(refused.status == 12 and refused.out == "" and "somebody listens at " in refused.err)
+    return "paths for the listener", wrong or told.unless(told.status == 12 and "\nnot supported: instance 0: nobody waits for the listener at " in told.out)
 
 
 def linted(_):
     """A script's schedule is told, which nobody goes by here, with the cure."""
-    own, words = TOP / "examples/own-broker", ["0", "--no-program", "--jobs", "1", "--", sys.executable, "-B", str(path_of("one_large_read"))]
-    ended = subprocess.run([TOP / "tools/commands/explore-broker", own / "policy.json", own / "script.txt", *words], stdin=subprocess.DEVNULL, capture_output=True, text=True)
-    right = "schedule-not-used: `explore-broker` doesn't go by the schedule" in ended.stderr and "\nhelp: leave it out" in ended.stderr
-    return "a script with a schedule", None if right else f"status {ended.returncode}, and it says {ended.stderr}"
+    ended = told_by_tool(TOP / "examples/own-broker/script.txt", "0", "--no-program", *python_broker("one_large_read"), policy=TOP / "examples/own-broker/policy.json")
+    return "a script with a schedule", ended.unless("schedule-not-used: `explore-broker` doesn't go by the schedule" in ended.err and "\nhelp: leave it out" in ended.err)
+
+
+def interrupted(jobs):
+    """An interrupt ends it at once, and the broker with it, however long a run may take."""
+    with tempfile.TemporaryDirectory(prefix="explored-brokers-") as room:
+        begun, name = Path(room, "begun"), f"an interrupt of {jobs} at once"
+        os.mkfifo(begun)
+        command = [EXPLORE, BROKERS / "policy.json", script_at("reused"), "0", "--no-program", "--jobs", jobs, "--patience", "600", "--", "sh", "-c", f"echo $$ > {begun}; exec sleep 600"]
+        with subprocess.Popen(command, stdin=subprocess.DEVNULL, stdout=subprocess.DEVNULL, stderr=subprocess.DEVNULL) as tool:
+            broker = begun.read_text().strip()
+            tool.send_signal(signal.SIGINT)
+            try:
+                status = tool.wait(MOST_SECONDS)
+            except subprocess.TimeoutExpired:
+                tool.kill()
+                return name, f"it hasn't ended after {MOST_SECONDS} seconds"
+        return name, None if status == ending.INTERRUPTED and not Path("/proc", broker).exists() else f"it ends with status {status}, and its broker {broker} is there or not"
 
 
 # what a program answers otherwise than it should, as sed has it, and what is then told
@@ -356,10 +380,8 @@ def differing(asked):
         other = Path(room) / "program"
         other.write_text(f"#!/bin/sh\n'{program}' \"$@\" | sed '{changed}'\n")
         other.chmod(0o755)
-        words = ["0", "--jobs", "1", "--program", other, "--", sys.executable, "-B", str(path_of("one_large_read"))]
-        ended = subprocess.run([TOP / "tools/commands/explore-broker", BROKERS / "policy.json", BROKERS / "scripts/together.txt", *words], stdin=subprocess.DEVNULL, capture_output=True, text=True)
-    right = ended.returncode == 12 and f"\n{wanted}" in ended.stdout and " findings=0 " in ended.stdout
-    return name, None if right else f"status {ended.returncode}, and it says {ended.stdout or ended.stderr}"
+        ended = told_by_tool(script_at("together"), "0", "--program", other, *python_broker("one_large_read"))
+    return name, ended.unless(ended.status == 12 and f"\n{wanted}" in ended.out and " findings=0 " in ended.out)
 
 
 def call(task):
@@ -369,6 +391,7 @@ def call(task):
 
 
 def main():
+    ending.as_in_foreground()
     parser = ToolParser()
     parser.add_argument("--jobs", type=int, default=os.cpu_count())
     parser.add_program()
@@ -386,6 +409,7 @@ def main():
             *((clause_trial, shown) for shown in clauses.CLAUSES), *((style_trial, broker) for broker in styles.STYLES), *((slip_trial, slip) for slip in slips.SLIPS),
             *((counted, (script, os.path.abspath(program))) for script in SCRIPTS), *((as_process, it) for it in smallest), *((odd_trial, name) for name in ODD),
             *((agent_trial, name) for name in agents()), *((differing, (name, os.path.abspath(program))) for name in DIFFERING), (two_instances, None), (listening, None), (linted, None),
+            *((interrupted, jobs) for jobs in ("1", "2")),
         ]
         for name, wrong in pool.imap_unordered(call, others, 1):
             count.note(name if isinstance(name, str) else f"{name[0]} as a process", wrong)

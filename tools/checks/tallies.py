@@ -1,13 +1,35 @@
 """How a check counts what it tries, and how it ends."""
 import os
+import subprocess
 import sys
-from typing import Iterable, Optional, Tuple, Union
+from typing import Any, Iterable, NamedTuple, Optional, Sequence, Tuple, Union
 
 from tools.commands.command_line.arguments import ToolParser
 from tools.commands.command_line.checkout import PROVED
 
 # what is wrong with a trial: nothing, a text, or several of them
 Wrong = Union[None, str, Iterable[str]]
+
+
+class Ended(NamedTuple):
+    """How a command ended, and what it printed and said."""
+
+    status: int
+    out: str
+    err: str
+
+    def __str__(self) -> str:
+        return f"status {self.status}, and it says {self.out or self.err}"
+
+    def unless(self, is_right: bool) -> Optional[str]:
+        """What is wrong with it: all of it, unless it is right."""
+        return None if is_right else str(self)
+
+
+def ended_of(words: Sequence[Union[str, "os.PathLike[str]"]], **how: Any) -> Ended:
+    """Runs a command without an input."""
+    ended = subprocess.run(words, stdin=subprocess.DEVNULL, capture_output=True, text=True, **how)
+    return Ended(ended.returncode, ended.stdout, ended.stderr)
 
 
 def whole_path(path: str) -> str:

@@ -176,7 +176,8 @@ def parts(schedules):
 
 @contextmanager
 def runner(setting, jobs):
-    """A function that runs schedules, in order, with so many processes. At the end each process finishes its run, and ends with all that it has started; none is killed, which could leave a lock of the pool taken."""
+    """A function that runs schedules, in order, with so many processes. At the end each process finishes its run, and ends with all that it has started; none is killed, which could leave a lock of the
+    pool taken. An interrupt doesn't wait for them: `watched` ends them."""
     set_sequence(setting)
     if jobs == 1:
         try:
@@ -187,12 +188,17 @@ def runner(setting, jobs):
     context = multiprocessing.get_context("fork")
     is_over = context.Event()
     pool = context.Pool(jobs, begin_process, (is_over,))
+    is_interrupted = False
     try:
         yield lambda batch: chain.from_iterable(pool.imap(run_some, parts(batch)))
+    except KeyboardInterrupt:
+        is_interrupted = True
+        raise
     finally:
         is_over.set()
-        pool.close()
-        pool.join()
+        if not is_interrupted:
+            pool.close()
+            pool.join()
 
 
 def explore(setting, delays, limit=None, jobs=1, tell=lambda explored: None, share=WHOLE, explored=None) -> Explored:
