@@ -1,10 +1,12 @@
-"""Files that are written whole or not at all."""
+"""Files and folders that are written whole or not at all."""
 import contextlib
 import os
 import stat
 import tempfile
+from pathlib import Path
+from typing import Iterator, Optional
 
-FULL = 0o666
+FULL, FULL_FOLDER = 0o666, 0o777
 
 
 def write(path: str, data: bytes) -> None:
@@ -21,7 +23,25 @@ def write(path: str, data: bytes) -> None:
         raise
 
 
-def mode_of(path: str):
+@contextlib.contextmanager
+def folder(place: Path) -> Iterator[Path]:
+    """A folder to be filled beside a place, and then put there instead of what it had: an interrupt leaves the old one. Raises OSError."""
+    place.parent.mkdir(parents=True, exist_ok=True)
+    with tempfile.TemporaryDirectory(prefix=f".{place.name}.", dir=place.parent) as beside:
+        made, old = Path(beside, "new"), Path(beside, "old")
+        made.mkdir(FULL_FOLDER)
+        yield made
+        if place.exists():
+            place.rename(old)
+        try:
+            made.rename(place)
+        except BaseException:
+            if old.exists():
+                old.rename(place)
+            raise
+
+
+def mode_of(path: str) -> Optional[int]:
     """The kind and the rights of a file; None if there is none."""
     try:
         return os.stat(path).st_mode
@@ -29,7 +49,7 @@ def mode_of(path: str):
         return None
 
 
-def put(place: str, data: bytes, mode) -> None:
+def put(place: str, data: bytes, mode: Optional[int]) -> None:
     """Makes an ordinary file anew."""
     handle, beside = tempfile.mkstemp(prefix=f".{os.path.basename(place)}.", dir=os.path.dirname(place))
     try:

@@ -1,11 +1,11 @@
 """What an exploration prints and saves."""
-import os
 import subprocess
 import sys
 from pathlib import Path
 
-from tools.commands.command_line import place
+from tools.commands.command_line import place, written
 from tools.commands.exploring.exploration import Explored, Found
+from tools.commands.exploring.runs import Played
 from tools.references.judging.sessions import session_text
 
 COMMAND = f"{place.HOME}/broker"
@@ -59,20 +59,22 @@ def whole_text(explored: Explored, share=None):
 
 
 def save(folder, explored: Explored):
-    """Saves what was found, each thing in a folder of its own. Raises OSError."""
+    """Saves what was found, each thing in a folder of its own, which is whole or isn't there. Raises OSError."""
     for name, known in (("finding", explored.findings), ("trouble", explored.troubles)):
         for number, found in enumerate(explored.in_order(known), 1):
-            save_one(Path(folder) / f"{name}-{number}", found.played)
+            with written.folder(Path(folder) / f"{name}-{number}") as made:
+                save_one(made, f"{name}-{number}", found.played)
 
 
-def save_one(folder, played):
-    folder.mkdir(parents=True, exist_ok=True)
+def save_one(folder: Path, name: str, played: Played) -> None:
     if played.script:
         (folder / "script.txt").write_bytes(played.script.encode("latin-1"))
     (folder / "session.txt").write_bytes(session_text(played.session))
     (folder / "report.txt").write_text(played.report, encoding="latin-1")
     (folder / "output.txt").write_bytes(played.output)
+    judged = []
     if played.told is not None:
         (folder / "judged.txt").write_text(played.told.text, encoding="latin-1")
-    judged = ["--judged", os.fspath(folder / "judged.txt")] if played.told is not None else []
-    subprocess.run([sys.executable, COMMAND, "picture", *judged, "-o", os.fspath(folder / "picture.html"), os.fspath(folder / "report.txt")], stdin=subprocess.DEVNULL, check=False)
+        judged = ["--judged", folder / "judged.txt"]
+    words = ["picture", *judged, "--title", f"{name}/report.txt", "-o", folder / "picture.html", folder / "report.txt"]
+    subprocess.run([sys.executable, COMMAND, *words], stdin=subprocess.DEVNULL, check=False)
