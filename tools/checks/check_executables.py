@@ -3,7 +3,7 @@
 `--help` prints help, and neither writes a file nor starts another program. A word that is no option is refused. Where the output can't be written
 (a full device, a closed descriptor, a pipe whose reader is gone) there is one line on standard error, and the status is 6. This is tried of each
 executable's help, and of what the users' tools print over PROGRAM, which is the one that ./broker runs, if none is named. An input without an end is
-refused in a line or two, and so is a machine that gives no more memory.
+refused in a line or two, and so is a machine that gives no more memory. Where it gives no more descriptors, the status is 7.
 
 Exit status: 0 if all is so, else 1. The last line is `executables: N passed, N failed`.
 """
@@ -40,6 +40,9 @@ ENDLESS = {
 }
 ENOUGH, LITTLE = 2 << 30, 30 << 20
 WITHOUT_MEMORY = {"test": f"--program {{program}} {TOP}/examples/tests/container.test", "picture": f"{FIRST}/report.txt"}
+# descriptors that are enough for Python, and not for starting the program
+DESCRIPTORS = 12
+WITHOUT_DESCRIPTORS = {"lint-script": PRINTED["lint-script"], "test": PRINTED["test"]}
 OF_COMMAND = ("help", "--help", "--version", "help play", "play --help", "test --help")
 
 
@@ -119,6 +122,12 @@ def of_bytes(most, least):
     return holds
 
 
+def of_descriptors(here, words):
+    ended = here.run(words, preexec_fn=lambda: resource.setrlimit(resource.RLIMIT_NOFILE, (DESCRIPTORS, DESCRIPTORS)))
+    if ended.returncode != ending.NO_MEMORY or ended.stderr.count("\n") != 1:
+        yield f"{' '.join(words[1:])} with {DESCRIPTORS} descriptors: {told(ended)}"
+
+
 def calls(program):
     """What is tried: the words, and what has to be so of them."""
     for path in executables():
@@ -129,6 +138,8 @@ def calls(program):
     for table, most, least in ((ENDLESS, ENOUGH, 1), (WITHOUT_MEMORY, LITTLE, 0)):
         for word, operands in table.items():
             yield [*executable(word), *operands.format(program=program).split()], of_bytes(most, least)
+    for word, operands in WITHOUT_DESCRIPTORS.items():
+        yield [*executable(word), *operands.format(program=program).split()], of_descriptors
     for words in OF_COMMAND:
         yield [TOP / "broker", *words.split()], of_outputs
 

@@ -3,6 +3,7 @@ import sys
 from collections import Counter
 
 from tools.commands.command_line.arguments import Parser
+from tools.commands.command_line.ending import reason
 from tools.commands.messages.refusals import LIMITS
 from tools.commands.real_workloads import answers, difference_names, difference_texts
 
@@ -25,7 +26,7 @@ def read(name, kind):
         with open(name, "rb") as file:
             data = file.read(LIMITS[kind] + 1)
     except OSError as fault:
-        sys.exit(f"{TOOL}: {name}: {fault.strerror}")
+        sys.exit(f"{TOOL}: {name}: {reason(fault)}")
     if len(data) > LIMITS[kind]:
         sys.exit(f"{TOOL}: {name}: a {kind} has at most {LIMITS[kind]} bytes")
     return data.decode("latin-1").replace("\r\n", "\n")

@@ -10,6 +10,7 @@ import sys
 
 from tools.commands.command_line import written
 from tools.commands.command_line.arguments import Parser
+from tools.commands.command_line.ending import reason
 from tools.commands.messages import profiles as explained
 from tools.commands.messages.findings import Text, message
 from tools.commands.real_workloads import bpf, profiles
@@ -59,7 +60,7 @@ def text_of(name):
         with open(name, "rb") as file:
             data = file.read(MOST_BYTES + 1)
     except OSError as fault:
-        failed(f"{name}: {fault.strerror}")
+        failed(f"{name}: {reason(fault)}")
     if len(data) > MOST_BYTES:
         failed(f"{name}: a profile has at most {MOST_BYTES} bytes")
     return Text(data)

@@ -8,6 +8,7 @@ import sys
 
 from tools.commands.command_line import place, table
 from tools.commands.command_line.arguments import Parser
+from tools.commands.command_line.ending import reason
 from tools.commands.command_line.command import HELP_OPTIONS, WRONG_WORDS
 from tools.commands.json_documents.documents import WHOLE, WORDS, document
 from tools.commands.pages.reports import NotAReport
@@ -55,7 +56,7 @@ def main():
     try:
         ended = subprocess.run([program, words.word, *words.operands], stdout=subprocess.PIPE)
     except OSError as fault:
-        print(f"json: {program}: {fault.strerror}", file=sys.stderr)
+        print(f"json: {program}: {reason(fault)}", file=sys.stderr)
         return NOT_READ
     if ended.returncode < 0:
         # it was ended by a signal, as a shell tells it

@@ -12,6 +12,7 @@ from argparse import Namespace
 
 from tools.commands.command_line import place
 from tools.commands.command_line.arguments import Parser
+from tools.commands.command_line.ending import reason
 from tools.commands.messages import likely, scripts
 from tools.commands.messages.findings import Text, message, whole_file
 from tools.commands.messages.refusals import LIMITS, SCRIPT
@@ -42,7 +43,7 @@ def refusal(program, data):
         try:
             ended = subprocess.run([program, "audit-check", "policy.json", "script.txt", "report.txt"], cwd=room, stdin=subprocess.DEVNULL, stdout=subprocess.DEVNULL, stderr=subprocess.PIPE)
         except OSError as fault:
-            raise NotTried(f"{program}: {fault.strerror}") from None
+            raise NotTried(f"{program}: {reason(fault)}") from None
     lines = ended.stderr.decode("utf-8", "replace").splitlines()
     told = SCRIPT.fullmatch(lines[-1]) if lines else None
     if ended.returncode == REFUSED and told:
@@ -66,7 +67,7 @@ def main():
         with open(words.file, "rb") as file:
             data = file.read(LIMITS["script"] + 1)
     except OSError as fault:
-        print(f"lint-script: {words.file}: {fault.strerror}", file=sys.stderr)
+        print(f"lint-script: {words.file}: {reason(fault)}", file=sys.stderr)
         return NOT_READ
     program = words.program or place.runnable()
     if program is None:

@@ -8,6 +8,7 @@ from typing import Any, Dict
 
 from tools.commands.command_line import written
 from tools.commands.command_line.arguments import Parser
+from tools.commands.command_line.ending import reason
 from tools.commands.pages.documents import picture_page
 from tools.commands.pages.reports import LIMIT, NotAReport
 from tools.commands.pages.still import still_picture
@@ -54,6 +55,6 @@ def main():
         print(f"picture: {asked.report}: {fault}", file=sys.stderr)
         return 1
     except OSError as fault:
-        print(f"picture: {fault.filename}: {fault.strerror}", file=sys.stderr)
+        print(f"picture: {fault.filename}: {reason(fault)}", file=sys.stderr)
         return 2
     return 0

@@ -11,6 +11,7 @@ from typing import TYPE_CHECKING, List
 
 from tools.commands.command_line import written
 from tools.commands.command_line.arguments import Parser
+from tools.commands.command_line.ending import reason
 from tools.commands.real_workloads import bpf, findings, strace_text, workload
 from tools.commands.real_workloads.script_text import CALLS, MOST_BYTES, MOST_FILTERS
 
@@ -66,8 +67,10 @@ def filters_of(asked):
     try:
         with open(asked.filters, encoding="utf-8") as file:
             text = file.read(MOST_BYTES + 1)
-    except (OSError, ValueError) as fault:
-        failed(f"{asked.filters}: {getattr(fault, 'strerror', None) or 'it is not UTF-8'}")
+    except OSError as fault:
+        failed(f"{asked.filters}: {reason(fault)}")
+    except ValueError:
+        failed(f"{asked.filters}: it is not UTF-8")
     if len(text) > MOST_BYTES:
         failed(f"{asked.filters}: filters of a script have at most {MOST_BYTES} bytes")
     try:
@@ -94,7 +97,7 @@ def main():
         filters, lines_of_filters = filters_of(asked)
         trace = trace_of(asked.trace)
     except OSError as fault:
-        failed(f"{fault.filename}: {fault.strerror}")
+        failed(f"{fault.filename}: {reason(fault)}")
     if trace.read == 0 or not trace.items and not trace.other_calls:
         failed(f"{asked.trace}: no line in it is a call as strace prints it")
     made = workload.Workload(trace, workload.Options(set(asked.calls), filters, set(asked.process), asked.lines, asked.most))
@@ -114,4 +117,4 @@ def write(name, text):
     try:
         written.write(name, text.encode("latin-1"))
     except OSError as fault:
-        failed(f"{name}: {fault.strerror}")
+        failed(f"{name}: {reason(fault)}")

@@ -76,6 +76,13 @@ def is_want(fault):
     return isinstance(fault, MemoryError) or getattr(fault, "errno", None) in WANTS or "start new thread" in str(fault)
 
 
+def reason(fault: OSError) -> str:
+    """Why a file can't be used, or a program can't be run. Raises the fault again if the machine is the reason, which `run` tells."""
+    if is_want(fault):
+        raise fault
+    return fault.strerror or str(fault)
+
+
 def run(main):
     """Ends the process with the status that `main` answers, or raises as SystemExit."""
     raw = guarded_output()

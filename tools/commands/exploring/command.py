@@ -8,6 +8,7 @@ from functools import lru_cache
 from typing import List
 
 from tools.commands.command_line import place
+from tools.commands.command_line.ending import is_want
 from tools.commands.exploring import telling
 from tools.commands.exploring.bounds import Bounds, is_sanitized
 from tools.commands.exploring.exploration import Explored, explore
@@ -214,6 +215,8 @@ def told(action, *arguments):
         print(ended.args[1], file=sys.stderr)
         return ended.args[0]
     except OSError as error:
+        if is_want(error):
+            raise
         print(f"explore-broker: {error}", file=sys.stderr)
         return WRITE_FAULT
 

@@ -14,6 +14,7 @@ from functools import lru_cache
 from itertools import accumulate
 from typing import List
 
+from tools.commands.command_line.ending import reason
 from tools.commands.exploring.bounds import Bounds
 from tools.commands.exploring.passing import Passing
 from tools.commands.exploring.processes import Started, anonymous_file, has_ended_within, has_gone, is_at_rest, peer_of
@@ -276,7 +277,7 @@ class ProcessInstance:
         try:
             self.process = Started(self.command, self.environment, self.written)
         except OSError as error:
-            raise NotSupported(f"{self.command[0]} can't be started: {error.strerror}") from None
+            raise NotSupported(f"{self.command[0]} can't be started: {reason(error)}") from None
         self.bounds.set_for(self.process.pid)
         self.until = time.monotonic() + self.bounds.patience
         if self.passing is not None:

@@ -4,6 +4,7 @@ import sys
 
 from tools.commands.command_line import written
 from tools.commands.command_line.arguments import Parser
+from tools.commands.command_line.ending import reason
 from tools.commands.exploring import telling
 from tools.commands.exploring.command import UNDECIDED, WRITE_FAULT, status_of
 from tools.commands.sharding import explorations, tests
@@ -143,5 +144,5 @@ def main(words):
         say(fault)
         return UNDECIDED if isinstance(fault, Unlike) else NOT_WHOLE
     except OSError as fault:
-        say(f"{fault.filename}: {fault.strerror}")
+        say(f"{fault.filename}: {reason(fault)}")
         return WRITE_FAULT if isinstance(fault, NotWritten) else NOT_WHOLE

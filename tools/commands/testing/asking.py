@@ -4,6 +4,7 @@ import re
 import subprocess
 import tempfile
 
+from tools.commands.command_line.ending import reason
 from tools.commands.messages.findings import Finding
 from tools.commands.real_workloads.script_text import TOKEN
 from tools.commands.testing.lines import NotUnderstood
@@ -41,7 +42,7 @@ class Program:
         try:
             ended = subprocess.run([self.path, word, *words], stdin=subprocess.DEVNULL, stdout=subprocess.PIPE, stderr=subprocess.PIPE)
         except OSError as fault:
-            raise NotAsked(f"{self.path}: {fault.strerror}") from None
+            raise NotAsked(f"{self.path}: {reason(fault)}") from None
         finally:
             os.unlink(file.name)
         if ended.returncode not in WHOLE:

@@ -10,6 +10,7 @@ from typing import TYPE_CHECKING, List
 
 from tools.commands.command_line import place, written
 from tools.commands.command_line.arguments import Parser
+from tools.commands.command_line.ending import reason
 from tools.commands.messages import speaking
 from tools.commands.sharding.shares import WHOLE, share
 from tools.commands.testing import asking, named_files, output
@@ -180,7 +181,7 @@ def main():
         print(f"test: {fault}", file=sys.stderr)
         return NOT_UNDERSTOOD
     except OSError as fault:
-        print(f"test: {fault.filename}: {fault.strerror}", file=sys.stderr)
+        print(f"test: {fault.filename}: {reason(fault)}", file=sys.stderr)
         return NOT_UNDERSTOOD
     except KeyboardInterrupt:
         return INTERRUPTED

@@ -5,6 +5,7 @@ import json
 import os
 from typing import TYPE_CHECKING, Any, Dict, List
 
+from tools.commands.command_line.ending import reason
 from tools.commands.messages.findings import advice, listed, meant
 from tools.commands.messages.script_words import MOST_BROKER
 from tools.commands.real_workloads.script_text import CALLS
@@ -30,7 +31,7 @@ def data_of(folder: str, word: Word) -> bytes:
     except OSError as fault:
         from tools.commands.messages.refusals import read_fault
         near = [it[len("help: "):] for it in read_fault(path)[1:]]
-        raise word.fault(f"{path}: {fault.strerror}", near[0] if near else "a file is named from the folder of the test file on") from None
+        raise word.fault(f"{path}: {reason(fault)}", near[0] if near else "a file is named from the folder of the test file on") from None
     if len(data) > MOST_BYTES:
         raise word.fault(f"{path} has more than {MOST_BYTES:,} bytes", "name a policy, filters, a profile or a trace")
     return data

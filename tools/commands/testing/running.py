@@ -6,6 +6,7 @@ from dataclasses import dataclass
 from functools import lru_cache
 from itertools import groupby
 
+from tools.commands.command_line.ending import reason
 from tools.commands.messages import policies
 from tools.commands.messages.findings import Finding, Text, message, whole_file
 from tools.commands.sharding.shares import WHOLE
@@ -266,7 +267,7 @@ def read(path):
         with open(path, "rb") as file:
             data = file.read(MOST_BYTES + 1)
     except OSError as fault:
-        return files.TestFile(path, Text(b""), faults=[whole_file("", fault.strerror, "")])
+        return files.TestFile(path, Text(b""), faults=[whole_file("", reason(fault), "")])
     if len(data) > MOST_BYTES:
         return files.TestFile(path, Text(b""), faults=[whole_file("", f"a test file has at most {MOST_BYTES} bytes", "")])
     return files.read(path, Text(data))

@@ -6,6 +6,7 @@ from typing import List
 
 from tools.commands.command_line import written
 from tools.commands.command_line.arguments import Parser
+from tools.commands.command_line.ending import reason
 from tools.references.judging.sessions import Follower, Unlike, Unreadable, read_session
 from tools.references.stepping import policies, scripts
 
@@ -37,7 +38,7 @@ def bytes_of(path: str, what: str) -> bytes:
             with open(path, "rb") as file:
                 data = file.read(MOST_BYTES[what] + 1)
     except OSError as error:
-        raise Ended(READ_FAULT, f"read fault: {what}: {error.strerror}") from None
+        raise Ended(READ_FAULT, f"read fault: {what}: {reason(error)}") from None
     if len(data) > MOST_BYTES[what]:
         raise Ended(TOO_LONG, f"too long: {what}")
     return data
@@ -82,7 +83,7 @@ def write(path, text):
     try:
         written.write(path, text.encode("latin-1"))
     except OSError as error:
-        raise Ended(WRITE_FAULT, f"write fault: {path}: {error.strerror}") from None
+        raise Ended(WRITE_FAULT, f"write fault: {path}: {reason(error)}") from None
 
 
 def run(words):
