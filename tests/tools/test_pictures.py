@@ -4,9 +4,10 @@ import re
 import pytest
 
 from tools.commands.pages.documents import picture_page
+from tools.commands.pages.judged import NotJudged
 from tools.commands.pages.reports import NotAReport, read
 from tools.commands.pages.still import still_picture
-from tools.commands.pages.views import view_of
+from tools.commands.pages.views import judged_view, view_of
 
 
 def test_a_report_is_read(example):
@@ -30,6 +31,14 @@ def test_a_still_picture_is_one_svg(example):
 def test_another_text_is_refused_with_its_line(data):
     with pytest.raises(NotAReport):
         view_of(data)
+
+
+def test_lines_that_end_with_cr_are_told_with_the_cure(example):
+    data = (example / "report.txt").read_bytes()
+    with pytest.raises(NotAReport, match=r"line 2: this line ends with CR and LF: `sed "):
+        view_of(data.replace(b"\n", b"\r\n").replace(b"\r", b"", 1))
+    with pytest.raises(NotJudged, match="line 1: this line ends with CR and LF"):
+        judged_view(data, b"mediated events=1 calls=0 effects=0 answers=0\r\n")
 
 
 def test_a_cut_report_is_refused(example):

@@ -10,6 +10,7 @@ from tools.commands.command_line import written
 from tools.commands.command_line.arguments import Parser
 from tools.commands.command_line.ending import reason
 from tools.commands.pages.documents import picture_page
+from tools.commands.pages.judged import NotJudged
 from tools.commands.pages.reports import LIMIT, NotAReport
 from tools.commands.pages.still import still_picture
 from tools.commands.pages.views import TITLES, judged_view, view_of
@@ -45,14 +46,14 @@ def main():
     asked = arguments()
     try:
         data = bytes_of(asked.report)
-        view = judged_view(data, bytes_of(asked.judged).decode("latin-1")) if asked.judged else view_of(data)
+        view = judged_view(data, bytes_of(asked.judged)) if asked.judged else view_of(data)
         page = still_picture(view) if asked.still else picture_page(view, asked.title or title_of(asked.report, view))
         if asked.output:
             written.write(asked.output, page.encode())
         else:
             sys.stdout.buffer.write(page.encode())
     except NotAReport as fault:
-        print(f"picture: {asked.report}: {fault}", file=sys.stderr)
+        print(f"picture: {asked.judged if isinstance(fault, NotJudged) else asked.report}: {fault}", file=sys.stderr)
         return 1
     except OSError as fault:
         print(f"picture: {fault.filename}: {reason(fault)}", file=sys.stderr)

@@ -1,11 +1,15 @@
 """What the judge of brokers has found in a history, for its picture: the first event that breaks a clause, and the events that this rests on (docs/YOUR_BROKER.md, Judge a session)."""
 import re
 
-from tools.commands.pages.reports import NotAReport
+from tools.commands.pages.reports import NotAReport, lines_of
 
 HEAD = re.compile(r"broken (\d{1,9}) (harm|answer|order) ([a-z-]{1,40})")
 REASON = re.compile(r"  (\d{1,9}) (.*)")
 SAID = "  "
+
+
+class NotJudged(NotAReport):
+    """A line at which the judge's text isn't one, or is another history's."""
 
 
 def quoted_place(line, report):
@@ -22,13 +26,16 @@ def quoted_place(line, report):
 
 
 def judged_of(text, report):
-    """What is drawn of the judge's text on this history, or None where nothing is broken. NotAReport says at which line it is no such text."""
-    lines = text.split("\n")
-    if lines[0].startswith("mediated "):
+    """What is drawn of the judge's text on this history, or None where nothing is broken. NotJudged says at which line it is no such text."""
+    try:
+        lines = lines_of(text, len(text))
+    except NotAReport as fault:
+        raise NotJudged(fault.line, fault.why) from None
+    if lines and lines[0].startswith("mediated "):
         return None
-    head = HEAD.fullmatch(lines[0])
+    head = HEAD.fullmatch(lines[0]) if lines else None
     if head is None or int(head[1]) >= len(report.events) or len(lines) < 4 or lines[1] != report.lines[int(head[1]) + 1]:
-        raise NotAReport(1, "this isn't what the judge says of that history")
+        raise NotJudged(1, "this isn't what the judge says of that history")
     reasons = [quoted_place(line, report) or (None, line[len(SAID):]) for line in lines[4:] if line.startswith(SAID)]
     return {"place": int(head[1]), "class": head[2], "clause": head[3], "means": lines[3][len(SAID):], "reasons": [list(reason) for reason in reasons]}
 

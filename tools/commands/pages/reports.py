@@ -9,6 +9,8 @@ from collections import namedtuple
 from typing import List, Tuple
 
 LIMIT = 33_554_432
+# what is wrong with a line that ends as lines do on Windows, and the cure
+CR_LF, LF_ALONE = "this line ends with CR and LF", "`sed 's/\\r$//'` leaves LF alone"
 
 NUMBER = r"\d{1,20}"
 SIGNED = r"-?\d{1,20}"
@@ -91,6 +93,8 @@ def lines_of(data: bytes, most: int) -> List[str]:
         text = data.decode("ascii")
     except UnicodeDecodeError as fault:
         raise NotAReport(data.count(b"\n", 0, fault.start) + 1, "a byte that stands in no report") from None
+    if "\r\n" in text:
+        raise NotAReport(text[:text.index("\r\n")].count("\n") + 1, f"{CR_LF}: {LF_ALONE}")
     lines = text.split("\n")
     if lines.pop() != "":
         raise NotAReport(len(lines) + 1, "the last line has no newline")

@@ -18,8 +18,8 @@ TITLE = re.compile(r"handovers (\d{1,20})")
 LEDGER = re.compile(r"ledger (\d{1,20}) (w\d{1,3}) (\{.*\})")
 
 
-def judged_view(data, text):
-    """The view of a report with what the judge says of its history. NotAReport says at which line one of the two is none."""
+def judged_view(data: bytes, text: bytes) -> Dict[str, Any]:
+    """The view of a report with what the judge says of its history. NotAReport and NotJudged say at which line one of the two is none."""
     report = read(data)
     judged, scene = judged_of(text, report), scene_of(report)
     return {"kind": "report", "scene": scene if judged is None else marked(scene, judged)}

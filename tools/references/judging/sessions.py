@@ -5,6 +5,7 @@ those that begin with `#` say nothing.
 """
 from typing import List, NamedTuple, Optional
 
+from tools.commands.pages.reports import CR_LF, LF_ALONE
 from tools.references.stepping.sessions import Session
 
 REQUEST, ANSWER, COMMENT = b"> ", b"< ", b"#"
@@ -30,6 +31,8 @@ def read_session(content: bytes) -> List[Exchange]:
     """The requests of a session with their answers. Raises Unreadable."""
     found = []
     for number, line in enumerate(content.split(b"\n"), 1):
+        if line.endswith(b"\r"):
+            raise Unreadable(number, f"{CR_LF}: {LF_ALONE}")
         if not line.strip() or line.startswith(COMMENT):
             continue
         if line.startswith(REQUEST) or line == REQUEST.rstrip():
