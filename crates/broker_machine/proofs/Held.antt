@@ -1,6 +1,6 @@
 -- What a worker holds when a deed of its session is due: what it uses is open, and what it takes was asked for.
 -- By induction on a legal history, and since a session that asked for a descriptor goes on with nothing but the take.
-use Rattle.mediation.proofs.Common.{[], Addfd, AddfdPut, addfd_of, and_parts, arith, cases_Bool, Deed, deed, deed_step, Event, first_some, inl, inr, is_worker, IsLegal, joined, length, List}
+use Rattle.mediation.proofs.Common.{[], Addfd, AddfdPut, addfd_of, and_parts, arith, cases_Bool, Deed, deed, deed_step, Event, false, first_some, inl, inr, is_worker, IsLegal, joined, length, List}
 use Rattle.mediation.proofs.Common.{mem, None, not, not-true, Notif, Ok, Option, put_in, refl, request_after, request_of, Rules, session, session_call, skips}
 use Rattle.mediation.proofs.Common.{Some, step, System, take_in, true, What, Worker, worker_step, ℕ, ◌&&◌, ◌<◌, ◌^◌, ◌∷◌, ◌≡◌}
 use Rattle.hist_model.specs.declared.policy.Cap.{Cap}
