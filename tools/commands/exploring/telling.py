@@ -72,9 +72,9 @@ def save_one(folder: Path, name: str, played: Played) -> None:
     (folder / "session.txt").write_bytes(session_text(played.session))
     (folder / "report.txt").write_text(played.report, encoding="latin-1")
     (folder / "output.txt").write_bytes(played.output)
-    judged = []
+    judged: list[str | Path] = []
     if played.told is not None:
         (folder / "judged.txt").write_text(played.told.text, encoding="latin-1")
         judged = ["--judged", folder / "judged.txt"]
-    words = ["picture", *judged, "--title", f"{name}/report.txt", "-o", folder / "picture.html", folder / "report.txt"]
+    words: list[str | Path] = ["picture", *judged, "--title", f"{name}/report.txt", "-o", folder / "picture.html", folder / "report.txt"]
     subprocess.run([sys.executable, COMMAND, *words], stdin=subprocess.DEVNULL, check=False)
