@@ -101,5 +101,5 @@ def main() -> bool:
     asked = parser.parse_args()
     names = asked.names
     tried = [(path, link, fault(path, link)) for path in ([Path(name).resolve() for name in names] or documents()) for link in links(path)]
-    tried += [] if names else rows_of_tools()
+    tried += [] if names else [*reached_from_readme(), *rows_of_tools()]
     return Tally("links").note_all((f"{path.relative_to(TOP)}", why and f"{link} {why}") for path, link, why in tried).ended()
