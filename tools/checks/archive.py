@@ -12,8 +12,8 @@ import sys
 import tempfile
 
 from tools.commands.command_line import arguments
+from tools.commands.command_line.top import TOP
 
-TOP = os.path.dirname(os.path.dirname(os.path.dirname(os.path.realpath(__file__))))
 FOLDER = f"{TOP}/crates/broker_c"
 
 
@@ -43,7 +43,7 @@ def is_left_by_gate(library, sources):
 def crate_over_the_gate():
     """The crate of the C library, where the libraries below it are what rt ci left."""
     try:
-        crate, sources = toolchain().Crate(FOLDER, TOP, {}), newest_source()
+        crate, sources = toolchain().Crate(FOLDER, str(TOP), {}), newest_source()
         return crate if all(is_left_by_gate(library, sources) for library in crate.below()) else None
     except (ImportError, AttributeError, TypeError) as error:
         print(f"archive: {error}", file=sys.stderr)

@@ -17,11 +17,11 @@ from tools.checks.tallies import Tally
 from tools.checks.threaded_runs import split
 from tools.commands.command_line.arguments import ToolParser
 from tools.commands.command_line.checkout import PROVED
+from tools.commands.command_line.top import TOP
 from tools.commands.explored import Broker, faults_in, has_requests
 from tools.commands.laned import first_fault
 from tools.commands.pods import parts
 
-TOP = os.path.dirname(os.path.dirname(os.path.dirname(os.path.abspath(__file__))))
 
 REPORT_LIMIT = 33_554_432
 

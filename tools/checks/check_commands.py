@@ -22,8 +22,8 @@ from pathlib import Path
 
 from tools.commands.command_line import arguments, table
 from tools.commands.command_line.arguments import ToolParser
+from tools.commands.command_line.top import TOP
 
-TOP = Path(__file__).resolve().parents[2]
 PAGES = ["README.md", "docs/TUTORIAL.md", "docs/POLICIES.md", "docs/TESTS.md", "docs/EXPLORE.md", "docs/REAL_WORKLOADS.md", "docs/MACHINES.md", "docs/THREADS.md",
          "docs/AUDITING.md", "docs/PICTURES.md", "docs/reference/STATUSES.md", "docs/reference/JSON.md", "docs/YOUR_BROKER.md", "docs/reference/CLAUSES.md"]
 # each with the reason

@@ -15,12 +15,11 @@ from __future__ import annotations
 
 import re
 from collections import namedtuple
-from pathlib import Path
 from typing import Any, Iterator, List, Union
 
 from tools.commands.command_line import arguments
+from tools.commands.command_line.top import TOP
 
-TOP = Path(__file__).resolve().parents[2]
 ARCHITECTURE = "docs/inside/ARCHITECTURE.md"
 TABLE_HEAD = "| crate | purpose | depends on |"
 CARRIED_HEAD = "| of the toolchain | carries | in | by |"

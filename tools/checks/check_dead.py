@@ -35,8 +35,8 @@ from pathlib import Path
 from typing import Dict, Tuple
 
 from tools.commands.command_line.arguments import ToolParser
+from tools.commands.command_line.top import TOP
 
-TOP = Path(__file__).resolve().parents[2]
 CRATES = TOP / "crates"
 PUBLIC_CALLS, DECISIONS = TOP / "public-calls.txt", TOP / "docs/inside/DECISIONS.md"
 

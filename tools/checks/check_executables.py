@@ -15,9 +15,9 @@ from concurrent.futures import ThreadPoolExecutor
 from pathlib import Path
 
 from tools.checks.tallies import Tally
-from tools.commands.command_line import arguments, ending, place
+from tools.commands.command_line import arguments, ending
+from tools.commands.command_line.top import TOP
 
-TOP = Path(place.HOME)
 FIRST = TOP / "examples/first"
 SECONDS, FEW = 60, 2
 # commands of the machine that no call of help starts

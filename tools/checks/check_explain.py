@@ -20,7 +20,6 @@ from tools.references.stepping.drawn_calls import drawn
 from tools.references.stepping.explaining import Refused, explanation
 from tools.references.stepping.policies import read_policy
 
-TOP = os.path.dirname(os.path.dirname(os.path.dirname(os.path.realpath(__file__))))
 
 BAD_CALLS = 5
 

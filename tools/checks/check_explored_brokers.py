@@ -30,6 +30,7 @@ from tools.checks.outside import module_at
 from tools.checks.tallies import Tally, ended_of
 from tools.commands.command_line import arguments, ending
 from tools.commands.command_line.arguments import ToolParser
+from tools.commands.command_line.top import TOP
 from tools.commands.exploring.bounds import Bounds
 from tools.commands.exploring.exploration import explore
 from tools.commands.exploring.instances import Door, InlineInstance, ProcessInstance
@@ -38,7 +39,6 @@ from tools.references.judging import clauses as judged
 from tools.references.judging.by_program import judgement_fault
 from tools.references.judging.command import read_files
 
-TOP = Path(__file__).resolve().parents[2]
 BROKERS, DEFINED = TOP / "tests/brokers", TOP / "tests/judged/defined"
 Kernel = module_at(TOP / "examples/python/seccomp_step.py").Kernel
 Broker = module_at(BROKERS / "common.py").Broker

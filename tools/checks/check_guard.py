@@ -25,8 +25,8 @@ from tools.checks.guarding import acts, calls, ends, takes
 from tools.checks.guarding.trials import CPLUSPLUS, make_programs
 from tools.checks.tallies import Tally
 from tools.commands.command_line.arguments import ToolParser
+from tools.commands.command_line.top import TOP
 
-TOP = Path(__file__).resolve().parents[2]
 BROKERS = TOP / "tests/brokers"
 
 REFUSED = 12

@@ -19,10 +19,10 @@ from pathlib import Path
 from tools.checks.json_schemas import Schemas, undetected
 from tools.checks.tallies import Tally
 from tools.commands.command_line import arguments
+from tools.commands.command_line.top import TOP
 from tools.commands.json_documents.documents import WHOLE, WORDS, document, text
 from tools.commands.pages.reports import NotAReport
 
-TOP = Path(__file__).resolve().parents[2]
 
 FILES = ["policy.json", "script.txt"]
 # the words that are run on each example, and one document of each is damaged

@@ -33,6 +33,7 @@ from pathlib import Path
 from tools.checks.tallies import Tally
 from tools.commands.command_line import arguments
 from tools.commands.command_line.arguments import ToolParser
+from tools.commands.command_line.top import TOP
 from tools.references.judging.by_program import has_judge, judgement_fault
 from tools.references.judging.command import read_files
 from tools.references.judging.drawn_trials import clauses_unmet, free_trials, fuzz_trials, play_trials, thread_trials
@@ -42,7 +43,6 @@ from tools.references.judging.reported import followed_report
 from tools.references.judging.sessions import Follower, read_session, session_text
 from tools.references.stepping.asking import Files, at_once, folders
 
-TOP = Path(__file__).resolve().parents[2]
 JUDGED = TOP / "tests/judged"
 DEFINED, VERDICT = JUDGED / "defined", TOP / "crates/broker_verdict/src"
 
@@ -192,7 +192,7 @@ def main():
         write_sessions()
         return 0
     program = arguments.named_or_own(asked.program)
-    program, count, known = os.path.abspath(program), Tally("judge"), list(folders(str(TOP)))
+    program, count, known = os.path.abspath(program), Tally("judge"), list(folders())
     if not has_judge(program):
         print(f"judge: {program} has no word `judge`\njudge: 0 passed, 1 failed")
         return 1

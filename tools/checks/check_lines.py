@@ -13,8 +13,8 @@ from typing import List
 
 from tools.checks.tallies import Tally
 from tools.commands.command_line.arguments import ToolParser
+from tools.commands.command_line.top import TOP
 
-TOP = Path(__file__).resolve().parents[2]
 WIDTH = 140
 
 

@@ -23,11 +23,11 @@ from difflib import unified_diff
 from pathlib import Path
 
 from tools.checks.tallies import Tally
-from tools.commands.command_line import arguments, ending, place
+from tools.commands.command_line import arguments, ending
+from tools.commands.command_line.top import TOP
 from tools.commands.messages import running
 from tools.commands.messages.refusals import entry_of
 
-TOP = Path(place.HOME)
 MARK = b"---- what is said\n"
 FILES = {"policy": "policy.json", "script": "script.txt", "report": "report.txt", "calls": "calls.txt", "claims": "claims.json"}
 # what stands beside a mistake, in which nothing is wrong

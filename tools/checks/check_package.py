@@ -20,10 +20,10 @@ import tempfile
 import time
 
 from tools.commands.command_line import arguments, place, table
+from tools.commands.command_line.top import TOP
 from tools.commands.packaging import minimal_root
 from tools.commands.packaging.trials import NOBODY, Ended, Trials, plain_environment, python
 
-TOP = place.HOME
 MOST_BYTES = 3_000_000
 MOST_SECONDS = 10
 PATH = "/usr/local/sbin:/usr/local/bin:/usr/sbin:/usr/bin:/sbin:/bin"

@@ -24,12 +24,12 @@ import time
 
 from tools.commands import pods
 from tools.commands.command_line.arguments import ToolParser
+from tools.commands.command_line.top import TOP
 from tools.commands.pages.documents import picture_page
 from tools.commands.pages.made_reports import report_of, with_markup
 from tools.commands.pages.served import playground
 from tools.commands.pages.views import view_of
 
-TOP = os.path.dirname(os.path.dirname(os.path.dirname(os.path.realpath(__file__))))
 try:
     from tools.commands.pages.browser import Browser, Keys
 except ImportError:

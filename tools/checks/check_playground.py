@@ -18,11 +18,11 @@ import time
 from concurrent.futures import ThreadPoolExecutor
 
 from tools.commands.command_line.arguments import ToolParser
+from tools.commands.command_line.top import TOP
 from tools.commands.pages.runs import LIMITS
 from tools.commands.pages.served import playground
 from tools.commands.pages.server import AT_ONCE, HEADERS
 
-TOP = os.path.dirname(os.path.dirname(os.path.dirname(os.path.realpath(__file__))))
 
 POLICY = '{"config": {"security.syscalls.intercept.mknod": "true"}}'
 SCRIPT = 'notify mknod\nprog main\npoke 0x10000 "/null\\0"\ncall mknod 0x10000 0o020666 259\nend\nschedule\nt 0 2\nw 0 9\nt 0 2\nend\n'

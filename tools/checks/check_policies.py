@@ -35,7 +35,6 @@ from tools.references.stepping.explaining import Refused as NoCall, calls_of
 from tools.references.stepping.policies import Refused, read_policy
 from tools.references.stepping.rules import Mknod, decide, fits
 
-TOP = os.path.dirname(os.path.dirname(os.path.dirname(os.path.realpath(__file__))))
 
 EQUAL, DIFFERENT = 0, 11
 # at most this many lines behind the first one

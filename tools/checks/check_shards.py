@@ -24,6 +24,7 @@ from tools.checks.check_tests import stored
 from tools.checks.json_schemas import Schemas, undetected
 from tools.checks.tallies import Tally
 from tools.commands.command_line import arguments
+from tools.commands.command_line.top import TOP
 from tools.commands.exploring import telling
 from tools.commands.exploring.command import status_of
 from tools.commands.exploring.exploration import Explored, explore
@@ -37,7 +38,6 @@ from tools.commands.testing.command import FAILED, NOT_UNDERSTOOD, PASSED, Progr
 from tools.commands.testing.running import Runner
 from seccomp_step import Kernel
 
-TOP = Path(__file__).resolve().parent.parent.parent
 COUNTS = (1, 2, 3, 7)
 NOT_WHOLE, UNDECIDED = 2, 12
 TIME = re.compile(r' time="[\d.]*"')

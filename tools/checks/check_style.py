@@ -22,8 +22,8 @@ from typing import Any, Dict, Iterator, List, Tuple, Union
 
 from tools.commands.command_line.arguments import ToolParser
 from tools.checks.style import markdown
+from tools.commands.command_line.top import TOP
 
-TOP = Path(__file__).resolve().parents[2]
 TABLES = Path(__file__).resolve().parent / "style"
 MOST_WORDS, WIDTH, SUBJECT, TOGETHER = 25, 100, 72, 30_000
 # pages that are a list of their own kind: each line of the changelog is an item, and the guide shows the words that it replaces

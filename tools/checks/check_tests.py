@@ -27,6 +27,7 @@ from xml.etree import ElementTree
 from tools.checks.json_schemas import Schemas, undetected
 from tools.checks.tallies import Tally
 from tools.commands.command_line import arguments, ending
+from tools.commands.command_line.top import TOP
 from tools.commands.testing import output
 from tools.commands.testing.asking import Program
 from tools.commands.testing.command import FAILED, NOT_UNDERSTOOD, PASSED, Progress
@@ -34,7 +35,6 @@ from tools.commands.testing.profiles import python_with_libseccomp
 from tools.commands.testing.running import Runner, Tests, read
 from tools.commands.testing.scripts import batches, container_of, script_of
 
-TOP = Path(__file__).resolve().parents[2]
 
 MARK = b"---- what is said\n"
 STATUSES = {"passed": PASSED, "failed": FAILED, "not-understood": NOT_UNDERSTOOD}

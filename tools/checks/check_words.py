@@ -10,13 +10,11 @@ from __future__ import annotations
 
 import re
 import subprocess
-from pathlib import Path
 from typing import Any, Dict, Set
 
 from tools.checks.tallies import Tally
 from tools.commands.command_line import arguments, pages, table
-
-TOP = Path(__file__).resolve().parents[2]
+from tools.commands.command_line.top import TOP
 
 
 def usage_of(program: str) -> Set[str]:

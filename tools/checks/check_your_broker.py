@@ -27,6 +27,7 @@ from pathlib import Path
 from tools.checks.tallies import Tally
 from tools.commands.command_line import arguments
 from tools.commands.command_line.arguments import ToolParser
+from tools.commands.command_line.top import TOP
 from tools.references.stepping.asking import answers_of, at_once, folders, in_pieces, one_by_one, play_ended
 from tools.references.stepping.drawn import drawn, script_and_report
 from tools.references.stepping.drawn_schedules import scheduled
@@ -35,7 +36,6 @@ from tools.references.stepping.plays import ended_slowly
 from tools.references.stepping.replay import NotReplayed, replayed
 from tools.references.stepping.shared import shared_again, with_two_workers
 
-TOP = os.path.dirname(os.path.dirname(os.path.dirname(os.path.realpath(__file__))))
 
 WARNINGS = ["-std=c11", "-Wall", "-Wextra", "-Wpedantic", "-Werror", "-g"]
 SANITIZED = ["-fsanitize=address,undefined", "-fno-sanitize-recover"]
@@ -127,7 +127,7 @@ def report_in(folder):
 @functools.cache
 def known_folders():
     """The folders of cases and examples, with those more often whose broker has descriptors."""
-    known = list(folders(TOP))
+    known = list(folders())
     return known + [(folder, files) for folder, files in known if files.session().kernel.container.broker] * OFTEN
 
 

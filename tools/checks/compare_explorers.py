@@ -25,9 +25,9 @@ from typing import List, Tuple
 
 from tools.commands.command_line.arguments import ToolParser
 from tools.commands.command_line.checkout import PROVED
+from tools.commands.command_line.top import TOP
 from tools.commands.explored import Broker, Explorer, faults_in, without_schedule
 
-TOP = Path(__file__).resolve().parents[2]
 
 BOUNDS = [("0", "2"), ("1", "2"), ("0", "all")]
 FILES = ["policy.json", "script.txt"]

@@ -29,7 +29,6 @@ from tools.references.joining.keys import FIELDS
 from tools.references.joining.shown import SHOWN, TOLD, shown
 from tools.references.stepping import policies, scripts
 
-TOP = Path(__file__).resolve().parents[2]
 
 BOUNDS = ["0", "1", "2", "3", "all"]
 

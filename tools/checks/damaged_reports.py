@@ -22,8 +22,8 @@ from typing import Iterator, List, Optional, Tuple, Union
 
 from tools.commands.command_line.arguments import ToolParser
 from tools.commands.command_line.checkout import PROVED
+from tools.commands.command_line.top import TOP
 
-TOP = os.path.dirname(os.path.dirname(os.path.dirname(os.path.realpath(__file__))))
 SCHEDULE = re.compile(r"^[ \t]*schedule[ \t]*(#.*)?\n.*?^[ \t]*end[ \t]*(#.*)?\n?", re.M | re.S)
 TASK = re.compile(rb"t0(\.[1-9][0-9]{0,9}){0,63}")
 OPEN = "open"

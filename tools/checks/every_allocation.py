@@ -26,8 +26,8 @@ from pathlib import Path
 from tools.checks import fuzz
 from tools.checks.preloaded import built
 from tools.checks.tallies import TrialParser
+from tools.commands.command_line.top import TOP
 
-TOP = os.path.dirname(os.path.dirname(os.path.dirname(os.path.realpath(__file__))))
 DONE, NO_MEMORY = (0, b""), (7, b"no memory\n")
 FILE_FAULTS = [*((2, b"read fault: %s\n" % name) for name in (b"policy", b"script", b"calls", b"requests")), (6, b"write fault\n")]
 # the variable that asks for a fault, what the faults are called, and the answers that may come of one

@@ -29,10 +29,10 @@ from collections import Counter
 from concurrent.futures import ThreadPoolExecutor
 
 from tools.checks.tallies import TrialParser
+from tools.commands.command_line.top import TOP
 from tools.commands.explored import has_requests
 from tools.commands.pods import last_line, parts
 
-TOP = os.path.dirname(os.path.dirname(os.path.dirname(os.path.realpath(__file__))))
 
 PLAY = ["play", "policy.json", "script.txt"]
 CHECK = ["audit-check", "policy.json", "script.txt", "report.txt"]

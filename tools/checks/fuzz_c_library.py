@@ -25,8 +25,8 @@ from collections import Counter
 from tools.checks import fuzz
 from tools.commands.command_line.arguments import ToolParser
 from tools.commands.command_line.checkout import PROVED
+from tools.commands.command_line.top import TOP
 
-TOP = os.path.dirname(os.path.dirname(os.path.dirname(os.path.realpath(__file__))))
 ROOM_LIMIT = 1 << 30
 DONE, USAGE, WRITE_FAULT, NO_MEMORY, SHORT_BUFFER = 0, 1, 6, 7, 100
 FUNCTIONS = {"play": 0, "stress": 1, "audit-check": 2, "handover": 3, "explore": 4, "judge": 5}

@@ -8,12 +8,10 @@ before it. tools/checks/c-library/fuzz-calls.c says what is tried. Exit status: 
 import hashlib
 import subprocess
 import tempfile
-from pathlib import Path
 
-from tools.commands.command_line import place
 from tools.commands.command_line.arguments import ToolParser
+from tools.commands.command_line.top import TOP
 
-TOP = Path(place.HOME)
 LARGEST = 39 * 512
 COMPILE = ["cc", "-std=gnu11", "-O2", "-Wall", "-Wextra", "-Idist/include", "tools/checks/c-library/fuzz-calls.c", "dist/lib/libseccomp_broker.a", "-pthread"]
 

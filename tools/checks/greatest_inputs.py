@@ -22,7 +22,6 @@ from bench.inputs import GREATEST
 from bench.measure import measured, memory, program_or_exit
 from tools.commands.command_line.arguments import ToolParser
 
-TOP = os.path.dirname(os.path.dirname(os.path.dirname(os.path.realpath(__file__))))
 
 PLAY = ["play", "policy.json", "script.txt"]
 

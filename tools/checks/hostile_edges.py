@@ -20,8 +20,8 @@ from pathlib import Path
 from tools.commands.command_line import ending
 from tools.commands.command_line.arguments import ToolParser
 from tools.commands.command_line.checkout import PROVED
+from tools.commands.command_line.top import TOP
 
-TOP = os.path.dirname(os.path.dirname(os.path.dirname(os.path.realpath(__file__))))
 PLAY = ["play", "policy.json", "script.txt"]
 SECONDS = 1.0
 POLICY = Path(f"{TOP}/examples/container-boot/policy.json").read_bytes()

@@ -13,8 +13,8 @@ import re
 import subprocess
 
 from tools.commands.command_line import arguments, trial
+from tools.commands.command_line.top import TOP
 
-TOP = os.path.dirname(os.path.dirname(os.path.dirname(os.path.realpath(__file__))))
 DIVIDE = "100"
 LONGEST = ["cases/reports-checked/fault-just-short-enough", "cases/reports-checked/fault-too-long"]
 

@@ -13,9 +13,8 @@ import tempfile
 
 from tools.checks import replaced
 from tools.commands.command_line.arguments import ToolParser
+from tools.commands.command_line.top import TOP
 from tools.commands.explored import has_requests
-
-TOP = os.path.dirname(os.path.dirname(os.path.dirname(os.path.abspath(__file__))))
 
 
 def is_left_out(folder, room, left_out):

@@ -25,8 +25,8 @@ from pathlib import Path
 from typing import NamedTuple, Optional
 
 from tools.commands.command_line.arguments import ToolParser
+from tools.commands.command_line.top import TOP
 
-TOP = Path(__file__).resolve().parents[2]
 LOGS = TOP / "packages/checks"
 PROVED = "crates/seccomp_broker/out/seccomp_broker"
 ARCHIVE = "crates/broker_c/out/libbroker_c.a"

@@ -1,11 +1,11 @@
 """The scripts of cases and examples that can be served with threads, and what their reports must have in common."""
 import fnmatch
-import os
 import re
 import subprocess
 from pathlib import Path
 
-TOP = os.path.dirname(os.path.dirname(os.path.dirname(os.path.realpath(__file__))))
+from tools.commands.command_line.top import TOP
+
 SHARED = re.compile(rb"^\s*(kill|thread)\b", re.M)
 UNMADE = re.compile(rb"^\d+ t\S* spawn \S+ E", re.M)
 

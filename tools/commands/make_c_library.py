@@ -17,9 +17,9 @@ import subprocess
 import sys
 import tempfile
 
-from tools.commands.command_line import arguments, checkout, place
+from tools.commands.command_line import arguments, checkout
+from tools.commands.command_line.top import TOP
 
-TOP = place.HOME
 DIST = f"{TOP}/dist"
 ARCHIVE = f"{TOP}/crates/broker_c/out/libbroker_c.a"
 EXPORTED = "{ global: broker_*; local: *; };"

@@ -6,8 +6,8 @@ from pathlib import Path
 
 from tools.commands.command_line import place
 from tools.commands.command_line.arguments import Parser
+from tools.commands.command_line.top import TOP
 
-TOP = Path(place.HOME)
 NAME = "libseccomp_shim.so"
 FOLDER = TOP / "lib/shim"
 # (the client's calls are hidden, so that a broker that has the client itself keeps its own)

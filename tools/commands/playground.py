@@ -8,11 +8,11 @@ import sys
 import tempfile
 
 from tools.commands.command_line.arguments import Parser
+from tools.commands.command_line.top import TOP
 from tools.commands.pages.runs import Program
 from tools.commands.pages.server import Server
 from tools.commands.watched import watched
 
-TOP = os.path.dirname(os.path.dirname(os.path.dirname(os.path.realpath(__file__))))
 
 BROKER = f"{TOP}/broker"
 HOST, LEAST_PORT, GREATEST_PORT = "127.0.0.1", 1024, 65535

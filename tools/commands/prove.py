@@ -12,8 +12,8 @@ import time
 from concurrent.futures import FIRST_COMPLETED, ThreadPoolExecutor, wait
 
 from tools.commands.command_line import arguments
+from tools.commands.command_line.top import TOP
 
-TOP = os.path.dirname(os.path.dirname(os.path.dirname(os.path.realpath(__file__))))
 PROGRAM = "seccomp_broker"
 
 

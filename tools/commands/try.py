@@ -10,8 +10,8 @@ import subprocess
 import sys
 
 from tools.commands.command_line import arguments
+from tools.commands.command_line.top import TOP
 
-TOP = os.path.dirname(os.path.dirname(os.path.dirname(os.path.realpath(__file__))))
 NOT_PROVED = "broker: this build isn't proved; ./broker --prove proves and builds the program"
 LIMITS = "broker: a trial build that isn't kept gives no report of more than 1 MiB or a minute; ./broker --prove builds the program, which has no such limits"
 ENDED = re.compile(r"run=ended status=(\d+) ")

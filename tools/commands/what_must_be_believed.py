@@ -19,8 +19,8 @@ from functools import lru_cache
 from typing import Dict, List, Optional, Set, Tuple
 
 from tools.commands.command_line.arguments import ToolParser
+from tools.commands.command_line.top import TOP
 
-TOP = os.path.dirname(os.path.dirname(os.path.dirname(os.path.realpath(__file__))))
 CRATES = f"{TOP}/crates"
 DOCUMENT = f"{TOP}/docs/inside/BELIEVED.md"
 BEGIN, END = "<!-- begin of what tools/commands/what-must-be-believed writes -->\n", "<!-- end of what tools/commands/what-must-be-believed writes -->\n"

@@ -4,7 +4,6 @@
 
 The calls are others than those that `check` prints, and so may be the rules. Exit status: 0 where all claims hold, 11 where one is refuted, 4 where a file is refused.
 """
-import os
 import sys
 from collections import Counter
 from pathlib import Path
@@ -14,7 +13,6 @@ from tools.references.deciding.claims import HELD, REFUTED, VACUOUS, read_claims
 from tools.references.stepping.explaining import asked_text
 from tools.references.stepping.policies import Refused, read_policy
 
-TOP = os.path.dirname(os.path.dirname(os.path.dirname(os.path.realpath(__file__))))
 
 REFUTING, BAD_FILE = 11, 4
 

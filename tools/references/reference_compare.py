@@ -6,7 +6,6 @@
 With --pairs each line has the place of the deciding rule in OLD, that in NEW, counted from 0, and a call for which they decide, also where both
 answer alike. The calls are others than those that `compare` prints. Exit status: 0 where the policies are equal, 11 where they differ, 4 where one is refused.
 """
-import os
 import sys
 from pathlib import Path
 
@@ -15,7 +14,6 @@ from tools.references.deciding.comparing import changes, counts, pairs
 from tools.references.stepping.explaining import asked_text
 from tools.references.stepping.policies import Refused, read_policy
 
-TOP = os.path.dirname(os.path.dirname(os.path.dirname(os.path.realpath(__file__))))
 
 DIFFERENT, REFUSED = 11, 4
 

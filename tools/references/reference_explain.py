@@ -4,13 +4,11 @@
 
 Statuses and lines on standard error are those of `explain`. tools/checks/check-explain compares both.
 """
-import os
 import sys
 
 from tools.commands.command_line.arguments import ToolParser
 from tools.references.stepping import explaining, policies
 
-TOP = os.path.dirname(os.path.dirname(os.path.dirname(os.path.realpath(__file__))))
 
 READ_FAULT, TOO_LONG, BAD_POLICY, BAD_CALLS = 2, 3, 4, 5
 MOST_BYTES = {"policy": 1_048_576, "calls": 8_388_608}

@@ -7,15 +7,12 @@ Who is able to step is found by playing: a schedule that leads to a place, and t
 All histories within the bound are made first, and put in order afterwards. The second form puts each schedule of an output of `explore`
 into the script, plays it, and compares what came of its calls with the lines above the schedule.
 """
-import os
 import sys
 from pathlib import Path
 
 from tools.commands.command_line import arguments
 from tools.commands.command_line.arguments import ToolParser
 from tools.commands.explored import Broker, Explorer, NotPlayed, faults_in
-
-TOP = os.path.dirname(os.path.dirname(os.path.dirname(os.path.realpath(__file__))))
 
 
 def main():

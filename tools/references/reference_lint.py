@@ -7,14 +7,12 @@ Of a policy that is refused that is told, and not what would be right. Exit stat
 from __future__ import annotations
 
 import json
-import os
 from pathlib import Path
 
 from tools.commands.command_line.arguments import ToolParser
 from tools.references.deciding.linting import findings, lines_of, refusal_line
 from tools.references.stepping.policies import Refused, read_policy
 
-TOP = os.path.dirname(os.path.dirname(os.path.dirname(os.path.realpath(__file__))))
 
 FOUND = 11
 

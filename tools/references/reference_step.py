@@ -20,7 +20,6 @@ from tools.references.stepping.plays import play
 from tools.references.stepping.requests import LONGEST
 from tools.references.stepping.sessions import Session
 
-TOP = os.path.dirname(os.path.dirname(os.path.dirname(os.path.realpath(__file__))))
 
 USAGE, READ_FAULT, TOO_LONG, BAD_POLICY, BAD_SCRIPT, WRITE_FAULT = 1, 2, 3, 4, 5, 6
 CHUNK = 65_536

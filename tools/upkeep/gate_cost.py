@@ -25,8 +25,8 @@ from pathlib import Path
 
 from tools.commands.command_line import place
 from tools.commands.command_line.arguments import ToolParser
+from tools.commands.command_line.top import TOP
 
-TOP = Path(place.HOME)
 DOCUMENT = TOP / "docs/inside/PROOF.md"
 BEGIN, END = "<!-- begin of what tools/upkeep/gate-cost writes -->\n", "<!-- end of what tools/upkeep/gate-cost writes -->\n"
 HEAD = "| crate or check | seconds of a processor | of them tests | largest process, GB |\n|---|---|---|---|\n"

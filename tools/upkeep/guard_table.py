@@ -8,12 +8,11 @@ Exit status: 0 where the page has the table, 1 where it doesn't, or the list can
 from __future__ import annotations
 
 import re
-from pathlib import Path
 from typing import Iterator, List, Tuple
 
 from tools.commands.command_line.arguments import ToolParser
+from tools.commands.command_line.top import TOP
 
-TOP = Path(__file__).resolve().parents[2]
 PAGE, LIST = TOP / "docs/reference/AGENTS.md", TOP / "lib/shim/call_list.h"
 BEGIN, END = "<!-- from lib/shim/call_list.h, by tools/upkeep/guard-table -->\n", "<!-- end of the table -->\n"
 HEAD = "| of | answered | passed | told | calls |\n|---|---|---|---|---|\n"

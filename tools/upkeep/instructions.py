@@ -18,8 +18,8 @@ import tempfile
 from bench.inputs import devices, fill, filters, lives, nothing
 from bench.measure import program_or_exit
 from tools.commands.command_line.arguments import ToolParser
+from tools.commands.command_line.top import TOP
 
-TOP = os.path.dirname(os.path.dirname(os.path.dirname(os.path.realpath(__file__))))
 
 PROGRAM = f"{TOP}/crates/seccomp_broker/out/seccomp_broker"
 HEAD = ("input", "events", "instructions, millions", "an event")

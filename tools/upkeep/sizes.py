@@ -8,14 +8,13 @@ Lines are all lines of src/*.rt (code, or tests where the name begins with trial
 from __future__ import annotations
 
 import glob
-import os
 import re
 import sys
 from typing import Dict, List
 
 from tools.commands.command_line.arguments import ToolParser
+from tools.commands.command_line.top import TOP
 
-TOP = os.path.dirname(os.path.dirname(os.path.dirname(os.path.abspath(__file__))))
 DOCUMENT = f"{TOP}/docs/inside/PROOF.md"
 BEGIN, END = "<!-- begin of what tools/upkeep/sizes writes -->\n", "<!-- end of what tools/upkeep/sizes writes -->\n"
 HEAD = "| crate | code | specifications | proofs | edits | tests |\n|---|---|---|---|---|---|\n"

@@ -10,6 +10,7 @@ from __future__ import annotations
 import sys
 
 from tools.commands.command_line.arguments import ToolParser
+from tools.commands.command_line.top import TOP
 from tools.upkeep.tables import clauses, commands, linux, page, policies, refusals, scripts, traces
 from tools.upkeep.tables.page import Table
 
@@ -36,7 +37,7 @@ def faults(check):
     """What is wrong; each page that has other tables is written, unless it is only checked."""
     yield from linux.faults()
     for name in sorted({it.page for it in TABLES}):
-        path = page.TOP / name
+        path = TOP / name
         before = text = path.read_text(encoding="utf-8")
         for table in (it for it in TABLES if it.page == name):
             made = page.written(table, text)

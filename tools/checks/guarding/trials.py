@@ -6,6 +6,7 @@ import sys
 from pathlib import Path
 from typing import NamedTuple, Optional
 
+from tools.commands.command_line.top import TOP
 from tools.commands.exploring.bounds import Bounds
 from tools.commands.exploring.exploration import explore
 from tools.commands.exploring.instances import Door, ProcessInstance
@@ -13,7 +14,6 @@ from tools.commands.exploring.runs import Files, Kind, Setting
 from tools.commands.exploring.shims import Shim
 from tools.references.judging.command import read_files
 
-TOP = Path(__file__).resolve().parents[3]
 SOURCES = TOP / "tests/guard"
 # (these programs do what a compiler warns of)
 FLAGS = ("-std=gnu11", "-O2", "-pthread", "-w")

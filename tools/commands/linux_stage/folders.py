@@ -7,7 +7,8 @@ import subprocess
 from pathlib import Path
 from typing import NamedTuple
 
-TOP = Path(__file__).resolve().parents[3]
+from tools.commands.command_line.top import TOP
+
 PLAYED = ("play", "run")
 
 

@@ -6,8 +6,8 @@ import subprocess
 from typing import NamedTuple
 
 from tools.commands.command_line import checkout, place, sources
+from tools.commands.command_line.top import TOP
 
-TOP = place.HOME
 ARCHIVE = f"{TOP}/crates/broker_c/out/libbroker_c.a"
 # what .ci/run keeps of the gate: the checksum of the sources, and the gate's closing lines
 GATE = f"{TOP}/packages/gate.txt"

@@ -1,10 +1,9 @@
 """Starts a playground for a check, and ends it."""
-import os
 import re
 import subprocess
 from contextlib import contextmanager
 
-TOP = os.path.dirname(os.path.dirname(os.path.dirname(os.path.dirname(os.path.realpath(__file__)))))
+from tools.commands.command_line.top import TOP
 
 
 @contextmanager

@@ -4,7 +4,8 @@ from __future__ import annotations
 import os
 import sys
 
-TOP = os.path.dirname(os.path.dirname(os.path.dirname(os.path.dirname(os.path.realpath(__file__)))))
+from tools.commands.command_line.top import TOP
+
 BUILT = f"{TOP}/crates/seccomp_broker/out/seccomp_broker"
 
 

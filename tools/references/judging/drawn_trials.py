@@ -10,6 +10,7 @@ from pathlib import Path
 from typing import NamedTuple, Optional
 
 from tools.checks import fuzz
+from tools.commands.command_line.top import TOP
 from tools.references.judging import clauses
 from tools.references.judging.by_program import judgement_fault
 from tools.references.judging.command import read_files
@@ -24,7 +25,6 @@ from tools.references.stepping.replay import SPENT
 from tools.references.stepping.sessions import Session
 from tools.references.stepping.turns import script_text
 
-TOP = Path(__file__).resolve().parents[3]
 BROKERS, JUDGED = TOP / "tests/brokers", TOP / "tests/judged"
 ACTORS = ("t 0", "t 0", "t 0.1", "t 0.1", "t 0.2", "t 0.1.1", "w 0", "w 0", "w 1", "w 2")
 MEDIATED = "mediated"
@@ -57,7 +57,7 @@ def small_files():
 @lru_cache(maxsize=None)
 def stored_files():
     """Those of cases and examples."""
-    return [files for _, files in folders(str(TOP))]
+    return [files for _, files in folders()]
 
 
 @lru_cache(maxsize=None)

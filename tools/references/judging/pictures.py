@@ -3,7 +3,8 @@ import subprocess
 import tempfile
 from pathlib import Path
 
-TOP = Path(__file__).resolve().parents[3]
+from tools.commands.command_line.top import TOP
+
 PICTURES = TOP / "docs/clauses"
 
 

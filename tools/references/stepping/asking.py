@@ -7,6 +7,7 @@ import subprocess
 from threading import Thread
 from typing import Iterator, NamedTuple, Tuple
 
+from tools.commands.command_line.top import TOP
 from tools.references.stepping import policies, scripts
 from tools.references.stepping.sessions import Session
 
@@ -35,11 +36,11 @@ class Files(NamedTuple):
             return policies.read_policy(policy.read())
 
 
-def folders(top: str) -> Iterator[Tuple[str, Files]]:
+def folders() -> Iterator[Tuple[str, Files]]:
     """The folders of cases and examples with a policy and a script that are taken."""
     for part in ("cases", "examples"):
-        for name in sorted(os.listdir(f"{top}/{part}")):
-            files = Files(f"{top}/{part}/{name}/policy.json", f"{top}/{part}/{name}/script.txt")
+        for name in sorted(os.listdir(f"{TOP}/{part}")):
+            files = Files(f"{TOP}/{part}/{name}/policy.json", f"{TOP}/{part}/{name}/script.txt")
             if all(map(os.path.isfile, files)) and is_taken(files):
                 yield f"{part}/{name}", files
 

@@ -6,7 +6,8 @@ import json
 from typing import Any, Dict, List, NamedTuple
 
 from tools.references.judging.clauses import CLAUSES
-from tools.upkeep.tables.page import TOP, rows
+from tools.commands.command_line.top import TOP
+from tools.upkeep.tables.page import rows
 
 SOURCE, BROKERS = "tools/references/judging/mistakes.json", "tests/brokers/clauses.py"
 

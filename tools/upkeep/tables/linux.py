@@ -2,7 +2,7 @@
 from pathlib import Path
 
 from tools.commands.linux_stage import differences
-from tools.upkeep.tables.page import TOP
+from tools.commands.command_line.top import TOP
 
 SHORT = "| difference | for a test | case |\n|---|---|---|\n"
 LONG = "| difference | Linux | here | why | for a test | seen in |\n|---|---|---|---|---|---|\n"

@@ -1,10 +1,7 @@
 """A page's generated parts: each stands between two marks, the first of which names its source."""
 from __future__ import annotations
 
-from pathlib import Path
 from typing import Callable, List, NamedTuple, Tuple
-
-TOP = Path(__file__).resolve().parents[3]
 
 
 class Table(NamedTuple):
