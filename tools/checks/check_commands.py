@@ -16,7 +16,6 @@ Exit status: 0 if each page shows what is so, else 1. The last line is `commands
 import os
 import re
 import subprocess
-import sys
 import tempfile
 from pathlib import Path
 
@@ -39,7 +38,7 @@ COMMAND = re.compile(r"^\$ (.*(?:\n> .*)*)\n((?:(?!\$ ).*\n)*)", re.M)
 BROKER = """#!/bin/sh
 case ${{1-}} in
   {over_program}) word=$1 && shift && exec '{top}/broker' "$word" --program '{program}' "$@" ;;
-  *) exec '{python}' '{top}/tools/checks/over' '{program}' "$@" ;;
+  *) exec '{top}/tools/checks/over' '{program}' "$@" ;;
 esac
 """
 FILE = re.compile(r"`([^`]+)`:$")
@@ -83,7 +82,7 @@ class Room:
 def broker(program):
     """The command over the program. The table says which tools ask it, and so have it named."""
     asks = [it["word"] for it in table.read()["words"] if it["kind"] == "tool" and any("--program" in option["names"] for option in it.get("options", []))]
-    return BROKER.format(top=TOP, program=program, python=sys.executable, over_program=" | ".join(asks))
+    return BROKER.format(top=TOP, program=program, over_program=" | ".join(asks))
 
 
 def shown_on(page, room):

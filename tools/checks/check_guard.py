@@ -17,7 +17,6 @@ import multiprocessing
 import os
 import shutil
 import subprocess
-import sys
 import tempfile
 from pathlib import Path
 
@@ -111,7 +110,7 @@ def try_acts_inside(count, programs, names, jobs):
         else:
             print("guard: nor are the others, which could harm it, since this is root")
         return
-    ended = subprocess.run([*words, sys.executable, TOP / "tools/checks/check-guard", "--inside", programs, "--jobs", str(jobs), *names], stdin=subprocess.DEVNULL, stdout=subprocess.PIPE, text=True, check=False)
+    ended = subprocess.run([*words, TOP / "tools/checks/check-guard", "--inside", programs, "--jobs", str(jobs), *names], stdin=subprocess.DEVNULL, stdout=subprocess.PIPE, text=True, check=False)
     *lines, last = ended.stdout.split("\n")[:-1] or [""]
     print("".join(f"{line}\n" for line in lines), end="")
     passed, failed = (int(word) for word in last.split()[1::2]) if last.startswith("inside: ") else (0, 1)

@@ -12,7 +12,6 @@ import json
 import os
 import shutil
 import subprocess
-import sys
 import tempfile
 from pathlib import Path
 
@@ -147,7 +146,7 @@ def ended_of(words, folder):
 
 
 def command(program, folder, *words):
-    return ended_of([sys.executable, TOP / "tools/commands/json", "--program", program, *words], folder)
+    return ended_of([TOP / "tools/commands/json", "--program", program, *words], folder)
 
 
 def command_faults(program, folder):

@@ -16,7 +16,6 @@ import shutil
 import signal
 import socket
 import subprocess
-import sys
 import tempfile
 from concurrent.futures import ThreadPoolExecutor
 from difflib import unified_diff
@@ -37,7 +36,7 @@ FOLDERS = {"policies": ("policy", {4}), "scripts": ("script", {5}), "calls": ("c
 # whose policy and script the reports are checked with
 OF_REPORTS = TOP / "examples/first"
 # the command over a program, and one that takes long to explore without a bound
-OVER = [sys.executable, str(TOP / "tools/checks/over")]
+OVER = [str(TOP / "tools/checks/over")]
 SLOW = """#!/bin/sh
 [ "$5" = all ] && exec sleep 60
 echo "explored workers=$4 delays=$5"
@@ -63,7 +62,7 @@ def played(program, folder):
 
 
 def linted(program, folder):
-    ended = subprocess.run([sys.executable, TOP / "tools/commands/lint-script", "--program", program, FILES["script"]], cwd=folder, stdin=subprocess.DEVNULL, capture_output=True)
+    ended = subprocess.run([TOP / "tools/commands/lint-script", "--program", program, FILES["script"]], cwd=folder, stdin=subprocess.DEVNULL, capture_output=True)
     return ended.returncode, ended.stdout.decode("utf-8", "replace")
 
 

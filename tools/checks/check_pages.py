@@ -690,7 +690,7 @@ def main():
     parser.add_argument("--program", type=os.path.abspath, help="the program that the playground runs, in place of ./broker")
     asked = parser.parse_args()
     if Browser is None and os.access(DEBIANS_PYTHON, os.X_OK) and os.path.realpath(sys.executable) != os.path.realpath(DEBIANS_PYTHON):
-        os.execv(DEBIANS_PYTHON, [DEBIANS_PYTHON, *sys.argv])
+        os.execv(DEBIANS_PYTHON, [DEBIANS_PYTHON, f"{TOP}/broker", "--as", *sys.argv])
     if Browser is None or not shutil.which("chromium") or not shutil.which("chromedriver"):
         print("check-pages: there is no browser here, so no page was looked at: Debian's chromium, chromium-driver and python3-selenium are it")
         return 3

@@ -71,7 +71,7 @@ class Check:
         print(f"check-real-workloads: {text}", flush=True)
 
     def tool(self, name, *words, python=sys.executable):
-        command = [python, f"{TOOLS}/{name}", *words]
+        command = [python, f"{program.TOP}/broker", "--as", f"{TOOLS}/{name}", *words]
         try:
             return subprocess.run(command, stdin=subprocess.DEVNULL, capture_output=True, text=True, timeout=SECONDS, check=False)
         except subprocess.TimeoutExpired:
@@ -221,7 +221,7 @@ class Check:
         self.passed.append(f"{len(RECORDED)} recordings")
 
     def record(self, name, command, trace, *words, seconds=SECONDS):
-        recorder = subprocess.Popen([sys.executable, f"{TOOLS}/record", "-o", trace, "--", *command], stdin=subprocess.DEVNULL, stdout=subprocess.DEVNULL, stderr=subprocess.DEVNULL)
+        recorder = subprocess.Popen([f"{TOOLS}/record", "-o", trace, "--", *command], stdin=subprocess.DEVNULL, stdout=subprocess.DEVNULL, stderr=subprocess.DEVNULL)
         try:
             recorder.wait(seconds)
         except subprocess.TimeoutExpired:

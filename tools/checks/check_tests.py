@@ -16,7 +16,6 @@ import pty
 import re
 import shutil
 import subprocess
-import sys
 import tempfile
 import time
 from difflib import unified_diff
@@ -40,7 +39,7 @@ MARK = b"---- what is said\n"
 STATUSES = {"passed": PASSED, "failed": FAILED, "not-understood": NOT_UNDERSTOOD}
 PROFILE = re.compile(rb"^filter \S+\.json", re.M)
 REFUSED_BY_LIBSECCOMP = ("profile-with-two-actions.test",)
-COMMAND = [sys.executable, str(TOP / "tools/commands/test")]
+COMMAND = [str(TOP / "tools/commands/test")]
 GOOD, BAD, WRONG = ("policy lxd.json\ncall mknod /dev/null c 1:3 -> granted\n", "policy lxd.json\ncall mknod /dev/null c 1:3 -> passed\n",
                     "policy lxd.json\ncall mknod /dev/null c 1:3 -> grantd\n")
 # a program that explores nothing, and prints what one does that was cut off

@@ -69,7 +69,7 @@ def wrong_with(number, programs, room):
     mark = f"{MARK}={number}-{os.getpid()}".encode()
     agent = room / "agent.py"
     agent.write_text(AGENT)
-    words = [sys.executable, TOP / "tools/commands/explore-broker", BROKERS / "policy.json", BROKERS / "scripts/reused.txt", "3", "--no-program", "--jobs", "2", "--shim", programs / "shim.so",
+    words = [TOP / "tools/commands/explore-broker", BROKERS / "policy.json", BROKERS / "scripts/reused.txt", "3", "--no-program", "--jobs", "2", "--shim", programs / "shim.so",
              "--listener-path", "/run/check-guard.sock", "--", sys.executable, "-B", agent, BROKERS / "agents/listener_path.py", "/run/check-guard.sock"]
     temporary = room / "tmp"
     temporary.mkdir()
