@@ -37,7 +37,7 @@ from tools.commands.exploring.instances import Door, InlineInstance, ProcessInst
 from tools.commands.exploring.runs import Files, Run, Setting
 from tools.references.judging import clauses as judged
 from tools.references.judging.by_program import judgement_fault
-from tools.references.judging.command import read_files
+from tools.references.stepping.inputs import read_files
 
 BROKERS, DEFINED = TOP / "tests/brokers", TOP / "tests/judged/defined"
 Kernel = module_at(TOP / "examples/python/seccomp_step.py").Kernel

@@ -35,7 +35,7 @@ from tools.commands.command_line import arguments
 from tools.commands.command_line.arguments import ToolParser
 from tools.commands.command_line.top import TOP
 from tools.references.judging.by_program import has_judge, judgement_fault
-from tools.references.judging.command import read_files
+from tools.references.stepping.inputs import read_files
 from tools.references.judging.drawn_trials import clauses_unmet, free_trials, fuzz_trials, play_trials, thread_trials
 from tools.references.judging.explained import differences
 from tools.references.judging.pictures import picture_of, place_of

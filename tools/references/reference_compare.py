@@ -6,28 +6,24 @@
 With --pairs each line has the place of the deciding rule in OLD, that in NEW, counted from 0, and a call for which they decide, also where both
 answer alike. The calls are others than those that `compare` prints. Exit status: 0 where the policies are equal, 11 where they differ, 4 where one is refused.
 """
-import sys
-from pathlib import Path
+from __future__ import annotations
 
 from tools.commands.command_line.arguments import ToolParser
 from tools.references.deciding.comparing import changes, counts, pairs
+from tools.references.stepping import inputs
 from tools.references.stepping.explaining import asked_text
-from tools.references.stepping.policies import Refused, read_policy
+
+DIFFERENT = 11
 
 
-DIFFERENT, REFUSED = 11, 4
-
-
-def rules_in(path, what):
-    try:
-        return read_policy(Path(path).read_bytes())
-    except Refused as refused:
-        print(f"{what}: {refused}", file=sys.stderr)
-        sys.exit(REFUSED)
-
-
-def compare(old, new, calls):
-    """Prints how the policies differ, and answers the exit status."""
+def compare(old_path: str, new_path: str, shows_pairs: bool) -> int:
+    """Prints how the policies differ, and answers the exit status. Raises inputs.Ended."""
+    old, new = inputs.rules_of(old_path), inputs.rules_of(new_path, "new policy")
+    calls = dict(pairs(old, new))
+    if shows_pairs:
+        for pair, request in calls.items():
+            print(*pair, asked_text(request))
+        return 0
     changed, counted = changes(old, new, calls), counts(old, new, calls)
     if not changed and not counted:
         print("equal")
@@ -46,10 +42,4 @@ def main():
     parser.add_argument("old")
     parser.add_argument("new")
     asked = parser.parse_args()
-    old, new = rules_in(asked.old, "policy"), rules_in(asked.new, "new policy")
-    calls = dict(pairs(old, new))
-    if not asked.pairs:
-        return compare(old, new, calls)
-    for pair, request in calls.items():
-        print(*pair, asked_text(request))
-    return 0
+    return inputs.status_of(compare, asked.old, asked.new, asked.pairs)

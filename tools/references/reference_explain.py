@@ -4,39 +4,20 @@
 
 Statuses and lines on standard error are those of `explain`. tools/checks/check-explain compares both.
 """
-import sys
+from __future__ import annotations
 
 from tools.commands.command_line.arguments import ToolParser
-from tools.references.stepping import explaining, policies
+from tools.references.stepping import inputs
+from tools.references.stepping.explaining import Refused, explanation
+
+BAD_CALLS = 5
 
 
-READ_FAULT, TOO_LONG, BAD_POLICY, BAD_CALLS = 2, 3, 4, 5
-MOST_BYTES = {"policy": 1_048_576, "calls": 8_388_608}
-
-
-class Ended(Exception):
-    """The program ends with a status and a line on standard error."""
-
-
-def bytes_of(path, what):
-    try:
-        with open(path, "rb") as file:
-            data = file.read(MOST_BYTES[what] + 1)
-    except OSError:
-        raise Ended(READ_FAULT, f"read fault: {what}") from None
-    if len(data) > MOST_BYTES[what]:
-        raise Ended(TOO_LONG, f"too long: {what}")
-    return data
-
-
-def explained(policy, calls):
-    try:
-        rules = policies.read_policy(bytes_of(policy, "policy"))
-        return explaining.explanation(rules, bytes_of(calls, "calls"))
-    except policies.Refused as refused:
-        raise Ended(BAD_POLICY, f"policy: {refused}") from None
-    except explaining.Refused as refused:
-        raise Ended(BAD_CALLS, f"calls: {refused}") from None
+def explain(policy: str, calls: str) -> int:
+    """Prints what is told of the calls. Raises inputs.Ended."""
+    rules = inputs.rules_of(policy)
+    print(inputs.taken("calls", calls, lambda data: explanation(rules, data), Refused, BAD_CALLS), end="")
+    return 0
 
 
 def main():
@@ -44,9 +25,4 @@ def main():
     parser.add_argument("policy", metavar="POLICY")
     parser.add_argument("calls", metavar="CALLS")
     asked = parser.parse_args()
-    try:
-        print(explained(asked.policy, asked.calls), end="")
-    except Ended as ended:
-        print(ended.args[1], file=sys.stderr)
-        return ended.args[0]
-    return 0
+    return inputs.status_of(explain, asked.policy, asked.calls, says_why=False)

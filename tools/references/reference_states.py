@@ -7,28 +7,31 @@ many states and steps there were in place of the text. It knows no limit of stat
 """
 import sys
 import time
-from pathlib import Path
+from argparse import Namespace
 
 from tools.commands.command_line.arguments import ToolParser
 from tools.references.joining.exploration import Exploration
-from tools.references.stepping import policies, scripts
+from tools.references.stepping import inputs
 
 
-def main():
+def explored(asked: Namespace) -> None:
+    """Prints the exploration. Raises inputs.Ended."""
+    begin = time.monotonic()
+    bound = None if asked.delays == "all" else int(asked.delays)
+    found = Exploration(*inputs.read_files(asked.policy, asked.script), asked.workers, bound, asked.without, asked.by_delays).walk()
+    if asked.counts:
+        print(f"histories={found.histories} states={found.states} widest={found.widest} steps={found.steps} seconds={time.monotonic() - begin:.1f}")
+    else:
+        sys.stdout.write(found.text())
+
+
+def main() -> int:
     parser = ToolParser()
     parser.add_argument("--without", action="append", default=[])
     parser.add_argument("--by-delays", action="store_true")
     parser.add_argument("--counts", action="store_true")
-    parser.add_argument("policy", type=Path)
-    parser.add_argument("script", type=Path)
+    parser.add_argument("policy")
+    parser.add_argument("script")
     parser.add_argument("workers", type=int)
     parser.add_argument("delays")
-    asked = parser.parse_args()
-    rules, container = policies.read_policy(asked.policy.read_bytes()), scripts.read_script(asked.script.read_bytes())
-    begin = time.monotonic()
-    bound = None if asked.delays == "all" else int(asked.delays)
-    explored = Exploration(rules, container, asked.workers, bound, asked.without, asked.by_delays).walk()
-    if asked.counts:
-        print(f"histories={explored.histories} states={explored.states} widest={explored.widest} steps={explored.steps} seconds={time.monotonic() - begin:.1f}")
-    else:
-        sys.stdout.write(explored.text())
+    return inputs.status_of(explored, parser.parse_args())

@@ -15,42 +15,12 @@ from typing import List, Optional, Tuple
 
 from tools.commands.command_line.arguments import ToolParser
 from tools.references.judging.sessions import session_text
-from tools.references.stepping import policies, scripts
+from tools.references.stepping import inputs
 from tools.references.stepping.plays import play
 from tools.references.stepping.requests import LONGEST
 from tools.references.stepping.sessions import Session
 
-
-USAGE, READ_FAULT, TOO_LONG, BAD_POLICY, BAD_SCRIPT, WRITE_FAULT = 1, 2, 3, 4, 5, 6
 CHUNK = 65_536
-MOST_BYTES = {"policy": 1_048_576, "script": 8_388_608}
-
-
-class Ended(Exception):
-    """The program ends with a status and a line on standard error."""
-
-
-def bytes_of(path, what):
-    try:
-        with open(path, "rb") as file:
-            data = file.read(MOST_BYTES[what] + 1)
-    except OSError:
-        raise Ended(READ_FAULT, f"read fault: {what}") from None
-    if len(data) > MOST_BYTES[what]:
-        raise Ended(TOO_LONG, f"too long: {what}")
-    return data
-
-
-def read_files(policy, script):
-    """The rules of a policy, and what a script states."""
-    try:
-        rules = policies.read_policy(bytes_of(policy, "policy"))
-    except policies.Refused as refused:
-        raise Ended(BAD_POLICY, f"policy: {refused}") from None
-    try:
-        return rules, scripts.read_script(bytes_of(script, "script"))
-    except scripts.Refused as refused:
-        raise Ended(BAD_SCRIPT, f"script: {refused}") from None
 
 
 class Lines:
@@ -111,7 +81,7 @@ def asked() -> Tuple[str, List[str]]:
 
 
 def done(word: str, files: List[str]) -> None:
-    rules, container = read_files(*files)
+    rules, container = inputs.read_files(*files)
     try:
         if word == "play":
             sys.stdout.buffer.write(play(rules, container).encode("latin-1"))
@@ -119,13 +89,8 @@ def done(word: str, files: List[str]) -> None:
         else:
             serve(Session(rules, container), sys.stdin.fileno(), sys.stdout.buffer)
     except OSError:
-        raise Ended(WRITE_FAULT, "write fault") from None
+        raise inputs.Ended(inputs.WRITE_FAULT, "write fault") from None
 
 
 def main():
-    try:
-        done(*asked())
-    except Ended as ended:
-        print(ended.args[1], file=sys.stderr)
-        return ended.args[0]
-    return 0
+    return inputs.status_of(done, *asked(), says_why=False)

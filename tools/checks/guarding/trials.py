@@ -12,7 +12,7 @@ from tools.commands.exploring.exploration import explore
 from tools.commands.exploring.instances import Door, ProcessInstance
 from tools.commands.exploring.runs import Files, Kind, Setting
 from tools.commands.exploring.shims import Shim
-from tools.references.judging.command import read_files
+from tools.references.stepping.inputs import read_files
 
 SOURCES = TOP / "tests/guard"
 # (these programs do what a compiler warns of)

@@ -17,12 +17,13 @@ from tools.commands.exploring.passing import Listening, is_served
 from tools.commands.exploring.preloading import program_of, why_not
 from tools.commands.exploring.runs import SEATS, Files, Setting
 from tools.commands.exploring.shims import Shim
-from tools.references.judging.command import USAGE, Ended, Words, bytes_of, read_files
 from tools.commands.messages import likely
 from tools.commands.messages.findings import Text, message
 from tools.commands.sharding import explorations
 from tools.commands.sharding.shares import WHOLE, fingerprint, share
 from tools.commands.watched import watched
+from tools.references.judging.command import Words
+from tools.references.stepping.inputs import USAGE, Ended, bytes_of, read_files, status_of as ended_status
 
 FOUND, UNDECIDED, WRITE_FAULT, INTERRUPTED = 11, 12, 6, 130
 NO_PROGRAM, STANDARD_INPUT = 7, "-"
@@ -210,10 +211,7 @@ def run(asked, room):
 def told(action, *arguments):
     """The status of something, whose failure is told on standard error."""
     try:
-        return action(*arguments)
-    except Ended as ended:
-        print(ended.args[1], file=sys.stderr)
-        return ended.args[0]
+        return ended_status(action, *arguments)
     except OSError as error:
         if is_want(error):
             raise

@@ -8,15 +8,10 @@ from tools.commands.command_line import written
 from tools.commands.command_line.arguments import Parser
 from tools.commands.command_line.ending import reason
 from tools.references.judging.sessions import Follower, Unlike, Unreadable, read_session
-from tools.references.stepping import policies, scripts
+from tools.references.stepping.inputs import USAGE, WRITE_FAULT, Ended, read_files, status_of, taken
 
-USAGE, READ_FAULT, TOO_LONG, BAD_POLICY, BAD_SCRIPT, WRITE_FAULT, NO_SESSION, BROKEN = 1, 2, 3, 4, 5, 6, 9, 11
-MOST_BYTES = {"policy": 1_048_576, "script": 8_388_608, "session": 268_435_456}
+NO_SESSION, BROKEN = 9, 11
 SHOWN = 300
-
-
-class Ended(Exception):
-    """A command ends with a status and a line on standard error."""
 
 
 class Words(Parser):
@@ -28,39 +23,6 @@ class Words(Parser):
 
     def error(self, message):
         raise Ended(USAGE, f"{self.format_usage().rstrip()}{self.behind}\n{self.prog}: {message}")
-
-
-def bytes_of(path: str, what: str) -> bytes:
-    try:
-        if path == "-":
-            data = sys.stdin.buffer.read(MOST_BYTES[what] + 1)
-        else:
-            with open(path, "rb") as file:
-                data = file.read(MOST_BYTES[what] + 1)
-    except OSError as error:
-        raise Ended(READ_FAULT, f"read fault: {what}: {reason(error)}") from None
-    if len(data) > MOST_BYTES[what]:
-        raise Ended(TOO_LONG, f"too long: {what}")
-    return data
-
-
-def read_files(policy, script):
-    """The rules of a policy, and the container of a script."""
-    try:
-        rules = policies.read_policy(bytes_of(policy, "policy"))
-    except policies.Refused as refused:
-        raise Ended(BAD_POLICY, f"policy: {refused}") from None
-    try:
-        return rules, scripts.read_script(bytes_of(script, "script"))
-    except scripts.Refused as refused:
-        raise Ended(BAD_SCRIPT, f"script: {refused}") from None
-
-
-def read_exchanges(path):
-    try:
-        return read_session(bytes_of(path, "session"))
-    except Unreadable as wrong:
-        raise Ended(NO_SESSION, f"session: line {wrong.args[0]}: {wrong.args[1]}") from None
 
 
 def shown(content):
@@ -93,7 +55,7 @@ def run(words):
     for name in ("policy", "script", "session"):
         parser.add_argument(name, metavar=name.upper())
     asked = parser.parse_args(words)
-    follower = followed(asked.policy, asked.script, read_exchanges(asked.session))
+    follower = followed(asked.policy, asked.script, taken("session", asked.session, read_session, Unreadable, NO_SESSION))
     if asked.idle:
         follower.judge.note_idle()
     if asked.report is not None:
@@ -103,8 +65,4 @@ def run(words):
 
 
 def main(words: List[str]) -> int:
-    try:
-        return run(words)
-    except Ended as ended:
-        print(ended.args[1], file=sys.stderr)
-        return ended.args[0]
+    return status_of(run, words)

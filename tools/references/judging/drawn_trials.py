@@ -13,13 +13,13 @@ from tools.checks import fuzz
 from tools.commands.command_line.top import TOP
 from tools.references.judging import clauses
 from tools.references.judging.by_program import judgement_fault
-from tools.references.judging.command import read_files
 from tools.references.judging.definition import Definition
 from tools.references.judging.free_workers import FreeWorkers, Mistake
 from tools.references.judging.judge import Judge
 from tools.references.judging.reported import followed_report
 from tools.references.stepping import policies, scripts
 from tools.references.stepping.asking import Files, folders, play_ended
+from tools.references.stepping.inputs import read_files
 from tools.references.stepping.plays import played
 from tools.references.stepping.replay import SPENT
 from tools.references.stepping.sessions import Session

@@ -14,6 +14,9 @@ REQUEST, ANSWER, COMMENT = b"> ", b"< ", b"#"
 class Unreadable(Exception):
     """A text that is no session; the arguments are the line's number and what is wrong with it."""
 
+    def __str__(self) -> str:
+        return "line {}: {}".format(*self.args)
+
 
 class Unlike(Exception):
     """An answer that the kernel doesn't give; the arguments are the line's number, what is told, and what the kernel answers."""
