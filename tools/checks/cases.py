@@ -6,22 +6,18 @@ A case is left out by the name that a failure is told with: cases/ids-wrap.
 import os
 import re
 import resource
-import shutil
 import subprocess
-import sys
 import tempfile
 from itertools import zip_longest
 from pathlib import Path
 
+from tools.checks import known
 from tools.checks.tallies import Tally
 from tools.checks.threaded_runs import split
 from tools.commands.command_line.arguments import ToolParser
-from tools.commands.command_line.checkout import PROVED
-from tools.commands.command_line.top import TOP
 from tools.commands.explored import Broker, faults_in, has_requests
 from tools.commands.laned import first_fault
 from tools.commands.pods import parts
-
 
 REPORT_LIMIT = 33_554_432
 
@@ -31,14 +27,11 @@ def read(path, otherwise=b""):
 
 
 def copy_cases(room):
-    """Copies the cases and examples to the room, and runs what makes their files."""
-    shutil.copytree(f"{TOP}/cases", f"{room}/cases")
-    shutil.copytree(f"{TOP}/examples", f"{room}/examples")
+    """Copies the cases and examples to the room, each with its words and its output."""
+    known.copied(room)
     for folder in [folder for folder, _, files in os.walk(f"{room}/examples") if "policy.json" in files]:
         os.rename(f"{folder}/report.txt", f"{folder}/stdout")
         Path(f"{folder}/args").write_text("play\npolicy.json\nscript.txt\n")
-    for folder in [folder for folder, _, files in os.walk(f"{room}/cases") if "make" in files]:
-        subprocess.run(["./make"], cwd=folder, check=True, env={**os.environ, "TOP": TOP})
 
 
 def words_of(folder):
@@ -138,15 +131,11 @@ def failures(program, folder):
 
 
 def main():
-    parser = ToolParser()
-    parser.add_argument("program", metavar="PROGRAM", nargs="?", default=PROVED)
+    parser = ToolParser().add_program()
     parser.add_argument("left_out", metavar="LEFT-OUT", nargs="*", help="the name of a case that isn't tried")
-    asked = parser.parse_args()
-    program, left_out = asked.program, asked.left_out
-    if not os.access(program, os.X_OK):
-        sys.exit(f"cases: {program} isn't there: rt ci builds it, or rt run in crates/seccomp_broker")
+    asked = parser.with_program()
     with tempfile.TemporaryDirectory(prefix="cases-") as room:
         copy_cases(room)
         names = sorted(os.path.relpath(folder, room) for folder, _, files in os.walk(room) if "args" in files)
-        found = {name: failures(os.path.abspath(program), f"{room}/{name}") for name in names if name not in left_out}
+        found = {name: failures(asked.program, f"{room}/{name}") for name in names if name not in asked.left_out}
     return Tally("cases").note_all(found.items()).ended()

@@ -19,7 +19,7 @@ import subprocess
 import tempfile
 from pathlib import Path
 
-from tools.commands.command_line import arguments, table
+from tools.commands.command_line import table
 from tools.commands.command_line.arguments import ToolParser
 from tools.commands.command_line.top import TOP
 
@@ -111,8 +111,7 @@ def main():
     parser = ToolParser()
     parser.add_program()
     parser.add_argument("pages", metavar="PAGE", nargs="*")
-    asked = parser.parse_args()
-    program = arguments.named_or_own(asked.program)
-    all_tried = [passed for page in asked.pages or PAGES for passed in tried(page, program)]
+    asked = parser.with_program()
+    all_tried = [passed for page in asked.pages or PAGES for passed in tried(page, asked.program)]
     print(f"commands: {sum(all_tried)} passed, {len(all_tried) - sum(all_tried)} failed")
     return not all(all_tried)

@@ -15,11 +15,9 @@ from itertools import zip_longest
 from pathlib import Path
 
 from tools.checks.tallies import Tally, TrialParser
-from tools.commands.command_line import arguments
 from tools.references.stepping.drawn_calls import drawn
 from tools.references.stepping.explaining import Refused, explanation
 from tools.references.stepping.policies import read_policy
-
 
 BAD_CALLS = 5
 
@@ -51,11 +49,8 @@ def shown(one, other):
 
 
 def main():
-    parser = TrialParser().add_draws(200)
-    parser.add_program()
-    asked = parser.parse_args()
-    program = arguments.named_or_own(asked.program)
+    asked = TrialParser().add_draws(200).add_program().with_program()
     numbers = range(asked.first, asked.first + asked.count)
     with ThreadPoolExecutor(os.cpu_count()) as pool:
-        found = pool.map(lambda number: fault(program, f"{asked.seed} {number}"), numbers)
+        found = pool.map(lambda number: fault(asked.program, f"{asked.seed} {number}"), numbers)
         return Tally("explain").note_all((f"draw {number} of seed {asked.seed}", wrong) for number, wrong in zip(numbers, found)).ended()

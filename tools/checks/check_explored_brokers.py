@@ -28,7 +28,7 @@ from typing import NamedTuple
 
 from tools.checks.outside import module_at
 from tools.checks.tallies import Tally, ended_of
-from tools.commands.command_line import arguments, ending
+from tools.commands.command_line import ending
 from tools.commands.command_line.arguments import ToolParser
 from tools.commands.command_line.top import TOP
 from tools.commands.exploring.bounds import Bounds
@@ -394,9 +394,7 @@ def main():
     ending.as_in_foreground()
     parser = ToolParser()
     parser.add_argument("--jobs", type=int, default=os.cpu_count())
-    parser.add_program()
-    asked = parser.parse_args()
-    program = arguments.named_or_own(asked.program)
+    program = (asked := parser.add_program().with_program()).program
     count, runs, smallest = Tally("explored-brokers"), 0, []
     expected = {**WRONG, **RIGHT}
     with multiprocessing.get_context("fork").Pool(asked.jobs) as pool:
@@ -404,11 +402,11 @@ def main():
             runs += number
             count.note(f"{key[0]} with {key[1]}", difference(expected[key], found, troubles))
             if key in WRONG and found:
-                smallest.append((key, min(found.items())[1], os.path.abspath(program)))
+                smallest.append((key, min(found.items())[1], program))
         others = [
             *((clause_trial, shown) for shown in clauses.CLAUSES), *((style_trial, broker) for broker in styles.STYLES), *((slip_trial, slip) for slip in slips.SLIPS),
-            *((counted, (script, os.path.abspath(program))) for script in SCRIPTS), *((as_process, it) for it in smallest), *((odd_trial, name) for name in ODD),
-            *((agent_trial, name) for name in agents()), *((differing, (name, os.path.abspath(program))) for name in DIFFERING), (two_instances, None), (listening, None), (linted, None),
+            *((counted, (script, program)) for script in SCRIPTS), *((as_process, it) for it in smallest), *((odd_trial, name) for name in ODD),
+            *((agent_trial, name) for name in agents()), *((differing, (name, program)) for name in DIFFERING), (two_instances, None), (listening, None), (linted, None),
             *((interrupted, jobs) for jobs in ("1", "2")),
         ]
         for name, wrong in pool.imap_unordered(call, others, 1):

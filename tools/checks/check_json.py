@@ -9,19 +9,17 @@ PROGRAM is the program that is run; without it, the one that ./broker runs. Exit
 `json: N passed, N failed`.
 """
 import json
-import os
-import shutil
 import subprocess
 import tempfile
 from pathlib import Path
 
+from tools.checks import known
 from tools.checks.json_schemas import Schemas, undetected
 from tools.checks.tallies import Tally
 from tools.commands.command_line import arguments
 from tools.commands.command_line.top import TOP
 from tools.commands.json_documents.documents import WHOLE, WORDS, document, text
 from tools.commands.pages.reports import NotAReport
-
 
 FILES = ["policy.json", "script.txt"]
 # the words that are run on each example, and one document of each is damaged
@@ -101,14 +99,6 @@ FORMS_OF_LINT = [
 OTHER_FORMS = {"explore": FORMS_OF_EXPLORE, "explain": FORMS_OF_EXPLAIN, "step": FORMS_OF_STEP, "judge": FORMS_OF_JUDGE, "compare": FORMS_OF_COMPARE, "check": FORMS_OF_CHECK, "lint": FORMS_OF_LINT}
 
 
-def copy_cases(room):
-    """Copies the cases and examples to the room, and runs what makes their files."""
-    for kind in ("cases", "examples"):
-        shutil.copytree(TOP / kind, f"{room}/{kind}")
-    for folder in sorted({path.parent for path in Path(room).glob("cases/**/make")}):
-        subprocess.run(["./make"], cwd=folder, check=True, stdout=subprocess.DEVNULL, env={"DIVIDE": "100", **os.environ, "TOP": str(TOP)})
-
-
 def status_of(folder):
     """The exit status that a case should have."""
     stated = folder / "status"
@@ -183,5 +173,5 @@ def tried(program, room):
 def main():
     program = arguments.program_asked()
     with tempfile.TemporaryDirectory(prefix="check-json-") as room:
-        copy_cases(room)
+        known.copied(room, DIVIDE="100")
         return Tally("json").note_all(tried(program, room)).ended()

@@ -23,7 +23,6 @@ nothing.
 Exit status: 0 where all passed, else 1, also where PROGRAM has no word `judge`. The last line is `judge: N passed, N failed`; above it
 stands how many histories have kept each clause, or broken which.
 """
-import os
 import re
 import subprocess
 import tempfile
@@ -35,13 +34,13 @@ from tools.commands.command_line import arguments
 from tools.commands.command_line.arguments import ToolParser
 from tools.commands.command_line.top import TOP
 from tools.references.judging.by_program import has_judge, judgement_fault
-from tools.references.stepping.inputs import read_files
 from tools.references.judging.drawn_trials import clauses_unmet, free_trials, fuzz_trials, play_trials, thread_trials
 from tools.references.judging.explained import differences
 from tools.references.judging.pictures import picture_of, place_of
 from tools.references.judging.reported import followed_report
 from tools.references.judging.sessions import Follower, read_session, session_text
 from tools.references.stepping.asking import Files, at_once, folders
+from tools.references.stepping.inputs import read_files
 
 JUDGED = TOP / "tests/judged"
 DEFINED, VERDICT = JUDGED / "defined", TOP / "crates/broker_verdict/src"
@@ -192,7 +191,7 @@ def main():
         write_sessions()
         return 0
     program = arguments.named_or_own(asked.program)
-    program, count, known = os.path.abspath(program), Tally("judge"), list(folders())
+    count, known = Tally("judge"), list(folders())
     if not has_judge(program):
         print(f"judge: {program} has no word `judge`\njudge: 0 passed, 1 failed")
         return 1

@@ -23,7 +23,6 @@ from itertools import zip_longest
 from pathlib import Path
 
 from tools.checks.tallies import Tally, TrialParser
-from tools.commands.command_line import arguments
 from tools.references.deciding import claims as claimed
 from tools.references.deciding.cells import HIGH_BIT, cells
 from tools.references.deciding.comparing import Change, Pair, changes, counts, pairs
@@ -34,7 +33,6 @@ from tools.references.deciding.played import script_of
 from tools.references.stepping.explaining import Refused as NoCall, calls_of
 from tools.references.stepping.policies import Refused, read_policy
 from tools.references.stepping.rules import Mknod, decide, fits
-
 
 EQUAL, DIFFERENT = 0, 11
 # at most this many lines behind the first one
@@ -262,10 +260,8 @@ def main():
     parser = TrialParser().add_draws(120, "pairs")
     parser.add_argument("--played", type=int, default=20)
     parser.add_argument("--words", default="compare,check,lint")
-    parser.add_program()
-    asked = parser.parse_args()
-    program = arguments.named_or_own(asked.program)
+    asked = parser.add_program().with_program()
     numbers = range(asked.first, asked.first + asked.pairs)
     with ProcessPoolExecutor(os.cpu_count()) as pool:
-        found = [pool.submit(fault, program, f"{asked.seed} {number}", number - asked.first < asked.played, asked.words.split(",")) for number in numbers]
+        found = [pool.submit(fault, asked.program, f"{asked.seed} {number}", number - asked.first < asked.played, asked.words.split(",")) for number in numbers]
         return Tally("policies").note_all((f"draw {number} of seed {asked.seed}", it.result()) for number, it in zip(numbers, found)).ended()

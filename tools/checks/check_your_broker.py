@@ -36,7 +36,6 @@ from tools.references.stepping.plays import ended_slowly
 from tools.references.stepping.replay import NotReplayed, replayed
 from tools.references.stepping.shared import shared_again, with_two_workers
 
-
 WARNINGS = ["-std=c11", "-Wall", "-Wextra", "-Wpedantic", "-Werror", "-g"]
 SANITIZED = ["-fsanitize=address,undefined", "-fno-sanitize-recover"]
 # of so many sessions one is asked request by request, and another is sent in pieces
@@ -248,7 +247,7 @@ def main():
         sys.stdout.buffer.write(b"".join(line + b"\n" for line in session.requests))
         return 0
     program = arguments.named_or_own(asked.program)
-    program, count = os.path.abspath(program), Tally("your-broker")
+    count = Tally("your-broker")
     try_languages(count, program)
     try_reports(count, program)
     try_sessions(count, program, asked.sessions, asked.seed)

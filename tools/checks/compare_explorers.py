@@ -15,7 +15,6 @@ from __future__ import annotations
 import json
 import os
 import random
-import shutil
 import subprocess
 import tempfile
 from concurrent.futures import ThreadPoolExecutor
@@ -23,11 +22,9 @@ from pathlib import Path
 from random import Random
 from typing import List, Tuple
 
-from tools.commands.command_line.arguments import ToolParser
-from tools.commands.command_line.checkout import PROVED
-from tools.commands.command_line.top import TOP
+from tools.checks import known
+from tools.checks.tallies import TrialParser
 from tools.commands.explored import Broker, Explorer, faults_in, without_schedule
-
 
 BOUNDS = [("0", "2"), ("1", "2"), ("0", "all")]
 FILES = ["policy.json", "script.txt"]
@@ -119,11 +116,7 @@ def made(room, seed, count, kind, draw):
 
 def kept(room):
     """The folders of the cases and examples that have a policy and a script, but for those that differ in the schedule alone."""
-    for name in ("cases", "examples"):
-        shutil.copytree(TOP / name, f"{room}/{name}")
-    for folder, _, files in list(os.walk(f"{room}/cases")):
-        if "make" in files:
-            subprocess.run(["./make"], cwd=folder, check=True, env={**os.environ, "TOP": str(TOP)})
+    known.copied(room)
     folders = sorted((Path(folder) for folder, _, files in os.walk(room) if set(FILES) <= set(files)), reverse=True)
     return sorted({((folder / FILES[0]).read_bytes(), without_schedule((folder / FILES[1]).read_bytes())): folder for folder in folders}.values())
 
@@ -184,23 +177,18 @@ def within(asked, folders):
 
 
 def arguments():
-    parser = ToolParser()
-    parser.add_argument("--program", default=PROVED)
+    parser = TrialParser().add_seed().add_limits(60.0, 2).add_built()
     parser.add_argument("--drawn", type=int, default=100, help="scripts that are drawn (%(default)s)")
     parser.add_argument("--trees", type=int, default=10, help="scripts that are drawn in which tasks mount and set attributes (%(default)s)")
-    parser.add_argument("--seed", default="1", help="what they are drawn from (%(default)s)")
-    parser.add_argument("--jobs", type=int, default=2, help="explorations at a time (%(default)s)")
     parser.add_argument("--most", type=int, default=400, help="histories of an exploration that is compared (%(default)s)")
     parser.add_argument("--longest", type=int, default=120, help="events of its longest one (%(default)s)")
-    parser.add_argument("--seconds", type=float, default=60, help="seconds that an exploration by the program may take (%(default)s)")
     parser.add_argument("--bounds", type=int, metavar="N", default=25, help="drawn scripts whose outcomes are counted by bounds (%(default)s)")
     parser.add_argument("folders", nargs="*", type=Path, help="folders with a policy and a script, in place of all cases and examples")
-    return parser.parse_args()
+    return parser.with_program()
 
 
 def main():
     asked = arguments()
-    asked.program = os.path.abspath(asked.program)
     results = {}
     with tempfile.TemporaryDirectory(prefix="explorers-") as room, ThreadPoolExecutor(asked.jobs) as pool:
         lots = list(made(room, asked.seed, asked.drawn, "drawn", drawn))

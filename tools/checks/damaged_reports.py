@@ -20,8 +20,7 @@ from collections import Counter
 from random import Random
 from typing import Iterator, List, Optional, Tuple, Union
 
-from tools.commands.command_line.arguments import ToolParser
-from tools.commands.command_line.checkout import PROVED
+from tools.checks.tallies import TrialParser
 from tools.commands.command_line.top import TOP
 
 SCHEDULE = re.compile(r"^[ \t]*schedule[ \t]*(#.*)?\n.*?^[ \t]*end[ \t]*(#.*)?\n?", re.M | re.S)
@@ -214,16 +213,14 @@ def some_schedule(rng: Random, script: str) -> str:
 
 
 def main():
-    parser = ToolParser()
+    parser = TrialParser().add_seed().add_built()
     parser.add_argument("--reports", type=int, default=300)
     parser.add_argument("--damages", type=int, default=20)
-    parser.add_argument("--seed", type=int, default=1)
-    parser.add_argument("--program", default=PROVED)
-    given = parser.parse_args()
+    given = parser.with_program()
     rng = random.Random(given.seed)
     known, told, at_fault, reports = list(inputs()), Counter(), 0, 0
     with tempfile.TemporaryDirectory() as room:
-        bench = Bench(os.path.abspath(given.program), room)
+        bench = Bench(given.program, room)
         for _ in range(20 * given.reports):
             if reports == given.reports:
                 break

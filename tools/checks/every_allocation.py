@@ -25,7 +25,7 @@ from pathlib import Path
 
 from tools.checks import fuzz
 from tools.checks.preloaded import built
-from tools.checks.tallies import TrialParser
+from tools.checks.tallies import TrialParser, answer_of, statuses_told
 from tools.commands.command_line.top import TOP
 
 DONE, NO_MEMORY = (0, b""), (7, b"no memory\n")
@@ -102,13 +102,8 @@ class Runs:
     def run(self, words, **asks):
         """The status, the output and the line of a run; the status is None where it didn't end. Requests stand beside the script."""
         requests = f"{os.path.dirname(words[-1])}/stdin" if words[0] == "step" else os.devnull
-        try:
-            with open(requests, "rb") as source:
-                ended = subprocess.run([self.asked.program, *words], stdin=source, capture_output=True, timeout=self.asked.seconds,
-                                       env={"LD_PRELOAD": self.library, **{name: str(value) for name, value in asks.items()}})
-        except subprocess.TimeoutExpired:
-            return None, b"", b""
-        return ended.returncode, ended.stdout, ended.stderr
+        with open(requests, "rb") as source:
+            return answer_of([self.asked.program, *words], self.asked.seconds, stdin=source, env={"LD_PRELOAD": self.library, **{name: str(value) for name, value in asks.items()}})
 
     def counted(self, words):
         """The answer with no fault, and how many calls of each kind there were."""
@@ -140,13 +135,12 @@ def tried(runs, row, kind, count, asked):
     statuses, faults = Counter(), 0
     with ThreadPoolExecutor(asked.jobs) as pool:
         for number, answer in zip(chosen, pool.map(lambda number: runs.run(row.words, **{kind[0]: number}), chosen)):
-            statuses["none" if answer[0] is None else answer[0]] += 1
+            statuses[answer.status] += 1
             if (wrong := fault_of(row, kind, answer)) is not None:
                 faults += 1
                 print(f"every-allocation: {row.name}, {kind[0]}={number}: {wrong}", flush=True)
-    told = ", ".join(f"{times} with status {status}" for status, times in sorted(statuses.items(), key=str))
     which = "each" if len(chosen) == count else f"{len(chosen)} tried"
-    print(f"{row.name}: {count} {kind[1]}, {which}: {told or 'none'}; {faults} at fault", flush=True)
+    print(f"{row.name}: {count} {kind[1]}, {which}: {statuses_told(statuses)}; {faults} at fault", flush=True)
     return faults
 
 
@@ -163,15 +157,11 @@ def library_faults(room):
 
 
 def main():
-    parser = TrialParser()
+    parser = TrialParser().add_seed().add_limits(10.0).add_built()
     parser.add_argument("--whole", type=int, default=20_000, help="how many of the first calls of a kind fail, one after another")
     parser.add_argument("--drawn", type=int, default=2_000, help="how many of the later ones fail, drawn at random")
-    parser.add_argument("--seed", type=int, default=1, help="seed for drawing them")
-    parser.add_argument("--seconds", type=float, default=10.0, help="how long a run may take")
-    parser.add_argument("--jobs", type=int, default=1, help="how many run at once")
     parser.add_argument("--all", action="store_true", help="play each example and case too")
     parser.add_argument("--library", action="store_true", help="try calls of the C library too")
-    parser.add_built()
     asked = parser.with_program()
     faults = 0
     with tempfile.TemporaryDirectory(prefix="every-allocation-") as room:

@@ -13,7 +13,6 @@ Exit status: 0 where no run is at fault, 1 where one is, 3 where there is no cc 
 import os
 import resource
 import shutil
-import subprocess
 import sys
 import tempfile
 import time
@@ -22,8 +21,8 @@ from concurrent.futures import ThreadPoolExecutor
 from pathlib import Path
 
 from tools.checks.preloaded import built
-from tools.checks.tallies import TrialParser
-from tools.checks.threaded_runs import counts
+from tools.checks.tallies import TrialParser, answer_of, statuses_told
+from tools.checks.threaded_runs import counts, refusal
 from tools.commands.pods import last_line, parts
 
 POLICY = """{"config":{"image.os":"ubuntu","security.syscalls.intercept.mknod":"true","security.syscalls.intercept.mount":"true",
@@ -104,12 +103,7 @@ class Files:
             Path(path).write_text(SCRIPT % base)
 
     def run(self, words, **limits):
-        """The status, the output and the line of a run; the status is None where it didn't end."""
-        try:
-            ended = subprocess.run([self.program, *words], stdin=subprocess.DEVNULL, capture_output=True, timeout=self.seconds, **limits)
-        except subprocess.TimeoutExpired:
-            return None, b"", b""
-        return ended.returncode, ended.stdout, ended.stderr
+        return answer_of([self.program, *words], self.seconds, **limits)
 
     def words(self, form, workers, cpus):
         pair = [self.policy, self.scripts[0]]
@@ -119,23 +113,19 @@ class Files:
 
     def refusal(self, script, report, wanted):
         """Why a report isn't that of a finished history with these counts, if it isn't."""
-        with tempfile.NamedTemporaryFile(dir=self.room) as kept:
-            kept.write(report)
-            kept.flush()
-            status, found, line = self.run(["audit-check", self.policy, script, kept.name])
-        if status != 0 or not found.splitlines()[0].endswith(b" finished=yes"):
-            return f"audit-check: status {status}, {(line or found)[:80]!r}"
+        wrong = refusal(self.program, self.seconds, [self.policy, script], report, self.room)
+        if wrong is not None:
+            return wrong
         return None if counts(report) == wanted else f"{counts(report)!r} where {wanted!r} is right"
 
     def fault(self, form, answer, wanted):
         """What is wrong with a run, if anything is."""
-        status, out, line = answer
-        if status != 0:
-            return "it didn't end in time" if status is None else f"status {status}, said {line[:200]!r}"
+        if answer.trouble:
+            return answer.trouble
         if form not in ("pod", "pod lanes"):
-            return self.refusal(self.scripts[0], out, wanted)
+            return self.refusal(self.scripts[0], answer.out, wanted)
         try:
-            reports, last = parts(out)
+            reports, last = parts(answer.out)
         except ValueError as wrong:
             return str(wrong)
         if len(reports) != 2 or last != last_line(reports):
@@ -156,8 +146,7 @@ class Tally:
             print(f"failing-threads: {what}: {wrong}", flush=True)
 
     def tell(self):
-        told = ", ".join(f"{times} with {'no end' if status is None else f'status {status}'}" for status, times in sorted(self.statuses.items(), key=str))
-        print(f"{self.title}: {told or 'none'}; {self.faults} at fault", flush=True)
+        print(f"{self.title}: {statuses_told(self.statuses)}; {self.faults} at fault", flush=True)
         return self.faults
 
 
@@ -173,7 +162,7 @@ def refused_threads(asked, files, wanted, library, form):
     """Has each creation of a thread fail in turn, and all from each on, and gives how many runs are at fault."""
     def run(words, variable, number):
         answer = files.run(words, env={"LD_PRELOAD": library, variable: str(number)})
-        return answer[0], files.fault(form, answer, wanted)
+        return answer.status, files.fault(form, answer, wanted)
 
     runs, faults, threads = [], 0, 0
     for workers, cpus in PAIRS[form]:
@@ -201,11 +190,11 @@ def small_spaces(asked, files, wanted):
 
     def run(form, words, mebibytes):
         answer = files.run(words, preexec_fn=limit(mebibytes))
-        is_refused = (answer[0], answer[2].rpartition(b": ")[2]) == NO_MEMORY
-        return answer[0], None if is_refused else files.fault(form, answer, wanted)
+        is_refused = (answer.status, answer.err.rpartition(b": ")[2]) == NO_MEMORY
+        return answer.status, None if is_refused else files.fault(form, answer, wanted)
 
     # In less the program can't be loaded: the system or its loader says so.
-    enough = [size for size in MEBIBYTES if files.run([], preexec_fn=limit(size))[0] == files.run([])[0]]
+    enough = [size for size in MEBIBYTES if files.run([], preexec_fn=limit(size)).status == files.run([]).status]
     if not enough:
         print(f"an address space of at most {MEBIBYTES[-1]} MiB: not tried, since the program can't be loaded in so little, as is so of a trial build")
         return 0
@@ -224,7 +213,7 @@ def few_processes(asked, files, wanted):
 
     def run(form, words, user, processes):
         answer = files.run(words, preexec_fn=lambda: become(user, processes))
-        return answer[0], files.fault(form, answer, wanted)
+        return answer.status, files.fault(form, answer, wanted)
 
     title = f"1 to {PROCESSES[-1]} processes, {len(PROCESSES)} limits"
     if os.geteuid() != 0:
@@ -238,11 +227,7 @@ def few_processes(asked, files, wanted):
 
 
 def main():
-    parser = TrialParser()
-    parser.add_argument("--seconds", type=float, default=20.0, help="how long a run may take")
-    parser.add_argument("--jobs", type=int, default=os.cpu_count() or 1, help="how many run at once")
-    parser.add_built()
-    asked = parser.with_program()
+    asked = TrialParser().add_limits(20.0, None).add_built().with_program()
     if shutil.which("cc") is None:
         print("tools/checks/failing-threads: the command cc isn't there, with which the library is built that makes threads fail", file=sys.stderr)
         return 3
@@ -250,9 +235,9 @@ def main():
     with tempfile.TemporaryDirectory(prefix="failing-threads-") as room:
         files = Files(asked, room)
         alone = files.run(files.words("run", 0, 0))
-        if alone[0] != 0:
-            sys.exit(f"tools/checks/failing-threads: the run without threads has status {alone[0]}, and said {alone[2][:200]!r}")
-        wanted = counts(alone[1])
+        if alone.trouble:
+            sys.exit(f"tools/checks/failing-threads: the run without threads: {alone.trouble}")
+        wanted = counts(alone.out)
         faults = sum(refused_threads(asked, files, wanted, built(room), form) for form in PAIRS)
         faults += small_spaces(asked, files, wanted) + few_processes(asked, files, wanted)
     print(f"failing-threads: {time.monotonic() - begun:.0f} s, {faults} at fault")

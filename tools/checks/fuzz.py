@@ -28,11 +28,10 @@ import time
 from collections import Counter
 from concurrent.futures import ThreadPoolExecutor
 
-from tools.checks.tallies import TrialParser
+from tools.checks.tallies import TrialParser, statuses_told
 from tools.commands.command_line.top import TOP
 from tools.commands.explored import has_requests
 from tools.commands.pods import last_line, parts
-
 
 PLAY = ["play", "policy.json", "script.txt"]
 CHECK = ["audit-check", "policy.json", "script.txt", "report.txt"]
@@ -542,33 +541,23 @@ def tried(inputs, at, asked, place):
     return answer and answer[0], checked and checked[0], wrong and f"{wrong} (the words are {words})", room, took
 
 
-def counts(statuses):
-    return ", ".join(f"{count} with status {status}" for status, count in sorted(statuses.items(), key=str))
-
-
 def main():
-    parser = TrialParser()
-    parser.add_argument("--count", type=int, default=2000, help="how many inputs are tried")
-    parser.add_argument("--seed", type=int, default=1)
-    parser.add_argument("--first", type=int, default=0, help="the number of the first one")
-    parser.add_argument("--jobs", type=int, default=1, help="how many run at once")
-    parser.add_argument("--seconds", type=float, default=1.0, help="how long a run may take")
+    parser = TrialParser().add_draws(2000).add_limits(1.0).add_built()
     parser.add_argument("--megabytes", type=int, default=1024, help="how much memory a run may take")
-    parser.add_built()
     asked = parser.with_program()
     resource.setrlimit(resource.RLIMIT_CORE, (0, 0))
     inputs, place, begun = Inputs(asked.seed), tempfile.mkdtemp(prefix="fuzz-"), time.monotonic()
     statuses, checks, faults, longest = Counter(), Counter(), 0, 0.0
     with ThreadPoolExecutor(asked.jobs) as pool:
         for status, checked, wrong, room, took in pool.map(lambda at: tried(inputs, at, asked, place), range(asked.first, asked.first + asked.count)):
-            statuses["none" if status is None else status] += 1
+            statuses[status] += 1
             checks.update([] if checked is None else [checked])
             longest = max(longest, took)
             if wrong is not None:
                 faults += 1
                 print(f"fuzz: {room}: {wrong}", flush=True)
     whole = f"{time.monotonic() - begun:.0f} s, the longest run {longest:.2f} s"
-    print(f"fuzz: {asked.count} inputs of seed {asked.seed} in {whole}: {counts(statuses)}; {sum(checks.values())} reports checked: {counts(checks)}; {faults} at fault")
+    print(f"fuzz: {asked.count} inputs of seed {asked.seed} in {whole}: {statuses_told(statuses)}; {sum(checks.values())} reports checked: {statuses_told(checks)}; {faults} at fault")
     if faults == 0:
         shutil.rmtree(place)
     return faults > 0

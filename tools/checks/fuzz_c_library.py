@@ -23,8 +23,7 @@ import time
 from collections import Counter
 
 from tools.checks import fuzz
-from tools.commands.command_line.arguments import ToolParser
-from tools.commands.command_line.checkout import PROVED
+from tools.checks.tallies import TrialParser, statuses_told
 from tools.commands.command_line.top import TOP
 
 ROOM_LIMIT = 1 << 30
@@ -191,12 +190,7 @@ def tried(caller, inputs, at, program, place):
 
 
 def main():
-    parser = ToolParser()
-    parser.add_argument("--count", type=int, default=10_000, help="how many inputs are called")
-    parser.add_argument("--seed", type=int, default=1)
-    parser.add_argument("--first", type=int, default=0, help="the number of the first one")
-    parser.add_argument("--program", type=os.path.abspath, default=PROVED)
-    asked = parser.parse_args()
+    asked = TrialParser().add_draws(10_000).add_built().parse_args()
     program = asked.program if os.access(asked.program, os.X_OK) else None
     if program is None:
         print(f"fuzz-c-library: {asked.program} isn't there, so answers aren't compared with the program's")
@@ -214,6 +208,6 @@ def main():
                 faults += 1
                 print(f"fuzz-c-library: input {at} of seed {asked.seed}: {wrong}", flush=True)
         ended = caller.ended()
-    print(f"fuzz-c-library: {asked.count} inputs of seed {asked.seed} in {time.monotonic() - begun:.0f} s, {left_out} of them words alone; {fuzz.counts(statuses)}; "
-          f"{sum(checks.values())} checks: {fuzz.counts(checks)}; {sum(handovers.values())} with workers replaced, explorations and judgements: {fuzz.counts(handovers)}; {faults} at fault; the C program ended with status {ended}")
+    print(f"fuzz-c-library: {asked.count} inputs of seed {asked.seed} in {time.monotonic() - begun:.0f} s, {left_out} of them words alone; {statuses_told(statuses)}; "
+          f"{sum(checks.values())} checks: {statuses_told(checks)}; {sum(handovers.values())} with workers replaced, explorations and judgements: {statuses_told(handovers)}; {faults} at fault; the C program ended with status {ended}")
     return faults > 0 or ended != 0

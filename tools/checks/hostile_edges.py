@@ -11,15 +11,12 @@ import resource
 import signal
 import socket
 import subprocess
-import sys
 import tempfile
 import threading
 import time
 from pathlib import Path
 
-from tools.commands.command_line import ending
-from tools.commands.command_line.arguments import ToolParser
-from tools.commands.command_line.checkout import PROVED
+from tools.commands.command_line import arguments, ending
 from tools.commands.command_line.top import TOP
 
 PLAY = ["play", "policy.json", "script.txt"]
@@ -35,7 +32,7 @@ LONG = b"prog main\n" + b'poke 0x10000 "%s"\n' % (b"a" * 60_000) * 3 + b"end\nsc
 class Run:
     """One run of the program in the folder of the case. What is opened for it here is closed again."""
 
-    program = PROVED
+    program: str
 
     def __init__(self, words=PLAY, out=None, err=None, signals=True, limits=(), closed=()):
         def limited():
@@ -260,11 +257,7 @@ def told_of(status, said):
 
 
 def main():
-    parser = ToolParser()
-    parser.add_program()
-    Run.program = parser.parse_args().program or Run.program
-    if not os.access(Run.program, os.X_OK):
-        sys.exit(f"tools/checks/hostile-edges: {Run.program} isn't there; ./broker --prove builds it")
+    Run.program = arguments.program_asked()
     ending.as_in_foreground()
     with tempfile.TemporaryDirectory(prefix="edges-") as room:
         os.chdir(room)

@@ -1,19 +1,17 @@
 """Plays each case and example of a play with workers that are replaced after each step, and after every second, third and seventh.
 
-    tools/checks/replace-workers PROGRAM [LEFT-OUT ..]
+    tools/checks/replace-workers [PROGRAM [LEFT-OUT ..]]
 
 The output must be that of the play, then `handovers N` and N lines of ledgers: at the places, by the workers and with the counts that the
 journal says, each a text that its own values give again. A case is left out by its folder, with those below it: cases/greatest-inputs.
 Status 0 where all are so; else the runs at fault are listed. It isn't part of the gate.
 """
 import os
-import shutil
 import subprocess
 import tempfile
 
-from tools.checks import replaced
+from tools.checks import known, replaced
 from tools.commands.command_line.arguments import ToolParser
-from tools.commands.command_line.top import TOP
 from tools.commands.explored import has_requests
 
 
@@ -24,14 +22,10 @@ def is_left_out(folder, room, left_out):
 
 def plays(room):
     """The folders of the cases and examples whose words ask for a play by this project's own worker."""
-    shutil.copytree(f"{TOP}/cases", f"{room}/cases")
-    shutil.copytree(f"{TOP}/examples", f"{room}/examples")
+    known.copied(room)
     for folder, _, files in os.walk(f"{room}/examples"):
         if "policy.json" in files:
             yield folder, ["policy.json", "script.txt"]
-    for folder, _, files in sorted(os.walk(f"{room}/cases")):
-        if "make" in files:
-            subprocess.run(["./make"], cwd=folder, check=True, env={**os.environ, "TOP": TOP})
     for folder, _, files in sorted(os.walk(f"{room}/cases")):
         words = open(f"{folder}/args").read().splitlines() if "args" in files else []
         if words[:1] == ["play"] and len(words) == 3 and not is_of_requests(f"{folder}/{words[2]}"):
@@ -52,10 +46,9 @@ def fault(report, out, every):
 
 
 def main():
-    parser = ToolParser()
-    parser.add_argument("program", metavar="PROGRAM", type=os.path.abspath)
+    parser = ToolParser().add_program()
     parser.add_argument("left_out", metavar="LEFT-OUT", nargs="*")
-    asked = parser.parse_args()
+    asked = parser.with_program()
     program, left_out, runs, faults = asked.program, asked.left_out, 0, 0
     with tempfile.TemporaryDirectory() as room:
         for folder, files in plays(room):

@@ -12,14 +12,9 @@ run without threads. The summaries are compared only if the order of steps can't
 memory with another one, and no task couldn't be created because no PID was free.
 """
 import random
-import tempfile
 from concurrent.futures import ThreadPoolExecutor
-from pathlib import Path
 
-from tools.checks import replaced
-from tools.checks.tallies import TrialParser
-from tools.checks.threaded_runs import UNMADE, answer, counts, rows, split, summary_may_vary
-from tools.commands.laned import first_fault
+from tools.checks.threaded_runs import UNMADE, answer, counts_alone, fault_of_part, parser_of, rows
 
 
 def words(asked, workers, cpus, every):
@@ -31,36 +26,17 @@ def words(asked, workers, cpus, every):
 def fault(asked, files, wanted, workers, cpus, every):
     """What is wrong with a run, if anything is. `wanted` has the counts of the summary where these are known."""
     command, numbers = words(asked, workers, cpus, every)
-    status, out, line = answer(asked, command, *files, *numbers)
-    if status is None:
-        return "it didn't end in time"
-    if status != 0:
-        return f"status {status}, said {line[:200]!r}"
-    report, ledgers = split(out)
-    wrong = replaced.fault(report, ledgers, every) if asked.replaced else "ledgers" if ledgers else None
-    if wrong is not None:
-        return wrong
-    with tempfile.NamedTemporaryFile() as kept:
-        kept.write(report)
-        kept.flush()
-        checked = answer(asked, "audit-check", *files, kept.name)
-    if checked[0] != 0 or not checked[1].splitlines()[0].endswith(b" finished=yes"):
-        return f"audit-check: status {checked[0]}, {(checked[2] or checked[1])[:80]!r}"
-    if asked.lanes and (line := first_fault(report)) is not None:
-        return f"not laned at {line[:80]!r}"
-    if wanted is not None and not UNMADE.search(report) and counts(report) != wanted:
-        return f"{counts(report)!r} where {wanted!r} is right"
-    return None
+    run = answer(asked, command, *files, *numbers)
+    return run.trouble or fault_of_part(asked, files, run.out, every, None if UNMADE.search(run.out) else wanted)
 
 
 def tried(asked, name, files):
     """Runs one script, prints what came of it, and gives how many runs are at fault."""
-    status, report, line = answer(asked, "run", *files, "0", "0")
-    if status != 0:
-        print(f"run-many: {name}, 0 workers and 0 processors: {'no end' if status is None else f'status {status}, said {line[:200]!r}'}", flush=True)
+    try:
+        wanted = counts_alone(asked, files)
+    except ValueError as why:
+        print(f"run-many: {name}, {why}", flush=True)
         return 1
-    ordered = summary_may_vary(Path(files[1]).read_bytes(), report)
-    wanted = None if ordered else counts(report)
     chance = random.Random(f"{asked.seed} {name}")
     hands = [(chance.randint(0, 16), chance.randint(0, 16), chance.randint(1, 12)) for _ in range(asked.times)]
     faults = 0
@@ -70,21 +46,12 @@ def tried(asked, name, files):
                 faults += 1
                 who = f"{'lanes' if asked.lanes else f'{workers} workers'} and {cpus} processors{f', replaced after {every}' if asked.replaced else ''}"
                 print(f"run-many: {name}, {who}: {wrong}", flush=True)
-    print(f"{name}: {asked.times} runs, {'accepted' if ordered else 'accepted, with one summary'}; {faults} at fault", flush=True)
+    print(f"{name}: {asked.times} runs, {'accepted' if wanted is None else 'accepted, with one summary'}; {faults} at fault", flush=True)
     return faults
 
 
 def main():
-    parser = TrialParser()
-    parser.add_argument("--lanes", action="store_true", help="serve by lanes, in place of workers")
-    parser.add_argument("--replaced", action="store_true", help="replace workers on the way")
-    parser.add_argument("--times", type=int, default=200, help="how often each script is run")
-    parser.add_argument("--seed", type=int, default=1, help="seed for the random numbers")
-    parser.add_argument("--seconds", type=float, default=20.0, help="how long a run may take")
-    parser.add_argument("--jobs", type=int, default=1, help="how many run at once")
-    parser.add_argument("--only", default="*", help="which cases and examples are run")
-    parser.add_built()
-    asked = parser.with_program()
+    asked = parser_of(200, 20.0).with_program()
     faults = {name: tried(asked, name, files) for name, *files in rows(asked.only)}
     print(f"run-many: {len(faults)} scripts, {asked.times * len(faults)} runs, {sum(faults.values())} at fault")
     return sum(faults.values()) > 0

@@ -22,10 +22,7 @@ import tempfile
 from concurrent.futures import ThreadPoolExecutor
 from pathlib import Path
 
-from tools.checks import replaced
-from tools.checks.tallies import TrialParser
-from tools.checks.threaded_runs import answer, counts, rows, split, summary_may_vary
-from tools.commands.laned import first_fault
+from tools.checks.threaded_runs import answer, counts_alone, fault_of_part, parser_of, rows
 from tools.commands.pods import last_line, parts
 
 PIDMAX = re.compile(rb"^[ \t]*pidmax[ \t]+(\d+)[^\n]*\n", re.M)
@@ -57,44 +54,17 @@ def written(room, members):
         yield policy, str(path)
 
 
-def ends_with(asked, files):
-    """The counts that a container ends with wherever it is served, or None where they may vary."""
-    status, report, line = answer(asked, "run", *files, "0", "0")
-    if status != 0:
-        raise ValueError(f"run {' '.join(files)}: {'no end' if status is None else f'status {status}, said {line[:200]!r}'}")
-    return None if summary_may_vary(Path(files[1]).read_bytes(), report) else counts(report)
-
-
 def served(asked, pairs, hands):
     """The reports of the containers of a pod."""
-    status, out, line = answer(asked, "pod", *hands, *(file for files in pairs for file in files))
-    if status != 0:
-        raise ValueError("it didn't end in time" if status is None else f"status {status}, said {line[:200]!r}")
-    reports, last = parts(out)
+    run = answer(asked, "pod", *hands, *(file for files in pairs for file in files))
+    if run.trouble:
+        raise ValueError(run.trouble)
+    reports, last = parts(run.out)
     if len(reports) != len(pairs):
         raise ValueError(f"{len(reports)} parts")
     if last != last_line(reports):
         raise ValueError(f"{last!r} where {last_line(reports)!r} is right")
     return reports
-
-
-def see_part(asked, files, part, every):
-    """Sees that the part of a container is a finished report of its files, with the counts that it must end with, and its ledgers."""
-    report, ledgers = split(part)
-    wrong = replaced.fault(report, ledgers, every) if asked.replaced else "ledgers" if ledgers else None
-    if wrong is not None:
-        raise ValueError(wrong)
-    with tempfile.NamedTemporaryFile() as kept:
-        kept.write(report)
-        kept.flush()
-        status, found, line = answer(asked, "audit-check", *files, kept.name)
-    if status != 0 or not found.splitlines()[0].endswith(b" finished=yes"):
-        raise ValueError(f"audit-check: status {status}, {(line or found)[:80]!r}")
-    if asked.lanes and (line := first_fault(report)) is not None:
-        raise ValueError(f"not laned at {line[:80]!r}")
-    wanted = ends_with(asked, files)
-    if wanted is not None and counts(report) != wanted:
-        raise ValueError(f"{counts(report)!r} where {wanted!r} is right")
 
 
 def fault(asked, members, hands, every):
@@ -103,7 +73,9 @@ def fault(asked, members, hands, every):
         pairs = list(written(room, members))
         try:
             for files, part in zip(pairs, served(asked, pairs, [*hands, *(["every", str(every)] if asked.replaced else [])])):
-                see_part(asked, files, part, every)
+                wrong = fault_of_part(asked, files, part, every, counts_alone(asked, files))
+                if wrong is not None:
+                    raise ValueError(wrong)
         except ValueError as wrong:
             return f"{' '.join(name for name, *_ in members)}, pod {' '.join(hands)}{f' every {every}' if asked.replaced else ''}: {wrong}"
     return None
@@ -122,16 +94,7 @@ def drawn(asked, all_rows, place):
 
 
 def main():
-    parser = TrialParser()
-    parser.add_argument("--lanes", action="store_true", help="serve by lanes")
-    parser.add_argument("--replaced", action="store_true", help="replace workers on the way")
-    parser.add_argument("--times", type=int, default=200, help="how many pods are drawn")
-    parser.add_argument("--seed", type=int, default=1, help="seed for the draws")
-    parser.add_argument("--seconds", type=float, default=60.0, help="how long a pod may take")
-    parser.add_argument("--jobs", type=int, default=1, help="how many are served at once")
-    parser.add_argument("--only", default="*", help="which cases and examples are drawn")
-    parser.add_built()
-    asked = parser.with_program()
+    asked = parser_of(200, 60.0).with_program()
     all_rows, faults = [row for row in rows(asked.only) if has_range(Path(row[2]).read_bytes())], 0
     with ThreadPoolExecutor(asked.jobs) as pool:
         for wrongs in pool.map(lambda place: drawn(asked, all_rows, place), range(asked.times)):

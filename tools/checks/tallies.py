@@ -1,7 +1,7 @@
 """How a check counts what it tries, and how it ends."""
 import os
 import subprocess
-import sys
+from collections import Counter
 from typing import Any, Iterable, NamedTuple, Optional, Sequence, Tuple, Union
 
 from tools.commands.command_line.arguments import ToolParser
@@ -32,8 +32,32 @@ def ended_of(words: Sequence[Union[str, "os.PathLike[str]"]], **how: Any) -> End
     return Ended(ended.returncode, ended.stdout, ended.stderr)
 
 
-def whole_path(path: str) -> str:
-    return os.path.abspath(path)
+class Answer(NamedTuple):
+    """How the program ended, with the bytes that it printed and said. Without a status it didn't end in time."""
+
+    status: Optional[int]
+    out: bytes
+    err: bytes
+
+    @property
+    def trouble(self) -> Optional[str]:
+        """What is wrong with its end; None where its status is 0."""
+        return None if self.status == 0 else "it didn't end in time" if self.status is None else f"status {self.status}, said {self.err[:200]!r}"
+
+
+def answer_of(words: Sequence[Union[str, "os.PathLike[str]"]], seconds: float, **how: Any) -> Answer:
+    """Runs the program within so many seconds, without an input where none is given."""
+    how.setdefault("stdin", subprocess.DEVNULL)
+    try:
+        ended = subprocess.run(words, capture_output=True, timeout=seconds, **how)
+    except subprocess.TimeoutExpired:
+        return Answer(None, b"", b"")
+    return Answer(ended.returncode, ended.stdout, ended.stderr)
+
+
+def statuses_told(statuses: "Counter[Optional[int]]") -> str:
+    """How many runs ended with which status, in words."""
+    return ", ".join(f"{times} with {'no end' if status is None else f'status {status}'}" for status, times in sorted(statuses.items(), key=str)) or "none"
 
 
 class Tally:
@@ -67,11 +91,14 @@ class Tally:
 class TrialParser(ToolParser):
     """The parser of a check that draws what it tries, or runs the program that was built."""
 
-    def add_draws(self, count: int, name: str = "count", seed: int = 1) -> "TrialParser":
+    def add_draws(self, count: int, name: str = "count") -> "TrialParser":
         """How many are drawn, and with which numbers."""
         self.add_argument(f"--{name}", type=int, default=count, help="how many are drawn (%(default)s)")
-        self.add_argument("--seed", type=int, default=seed, help="seed for drawing them (%(default)s)")
         self.add_argument("--first", type=int, default=0, help="the number of the first one (%(default)s)")
+        return self.add_seed()
+
+    def add_seed(self) -> "TrialParser":
+        self.add_argument("--seed", type=int, default=1, help="seed for drawing them (%(default)s)")
         return self
 
     def add_limits(self, seconds: float, jobs: Optional[int] = 1) -> "TrialParser":
@@ -82,12 +109,5 @@ class TrialParser(ToolParser):
 
     def add_built(self) -> "TrialParser":
         """The program that was proved, or another one."""
-        self.add_argument("--program", type=whole_path, default=PROVED, help="the program that is tried, in place of the proved one")
+        self.add_argument("--program", default=PROVED, help="the program that is tried, in place of the proved one")
         return self
-
-    def with_program(self):
-        """The words. A program that isn't there ends the process."""
-        asked = self.parse_args()
-        if not os.access(asked.program, os.X_OK):
-            sys.exit(f"{self.prog}: {asked.program} isn't there; ./broker --prove builds it")
-        return asked

@@ -4,6 +4,7 @@ from __future__ import annotations
 import argparse
 import os
 import sys
+from typing import Optional
 
 from tools.commands.command_line import pages, place, table
 
@@ -25,9 +26,16 @@ class ToolParser(argparse.ArgumentParser):
     def __init__(self) -> None:
         super().__init__(prog=os.path.basename(sys.argv[0]), description=sys.modules["__main__"].__doc__, formatter_class=argparse.RawDescriptionHelpFormatter, allow_abbrev=False)
 
-    def add_program(self):
+    def add_program(self) -> ToolParser:
         """The operand of most checks: the program that is checked."""
-        self.add_argument("program", metavar="PROGRAM", nargs="?", type=os.path.abspath, help="the program; without it, the one that ./broker runs")
+        self.add_argument("program", metavar="PROGRAM", nargs="?", help="the program; without it, the one that ./broker runs")
+        return self
+
+    def with_program(self) -> argparse.Namespace:
+        """The words, with the path of a program that can be run; where there is none, the process ends."""
+        asked = self.parse_args()
+        asked.program = named_or_own(asked.program)
+        return asked
 
 
 def none() -> None:
@@ -37,14 +45,12 @@ def none() -> None:
 
 def program_asked() -> str:
     """The path of the program that is named, or else of the one that ./broker runs."""
-    parser = ToolParser()
-    parser.add_program()
-    return named_or_own(parser.parse_args().program)
+    return ToolParser().add_program().with_program().program
 
 
-def named_or_own(program: str) -> str:
+def named_or_own(program: Optional[str]) -> str:
     """The path of a program that was named, or else of the one that ./broker runs; where that can't be had, the process ends."""
-    found = program or place.program()
-    if not found:
-        sys.exit(f"{os.path.basename(sys.argv[0])}: there is no program to try")
-    return os.path.abspath(found)
+    found = os.path.abspath(program or place.program() or sys.exit(f"{os.path.basename(sys.argv[0])}: there is no program to try"))
+    if not os.access(found, os.X_OK) or os.path.isdir(found):
+        sys.exit(f"{os.path.basename(sys.argv[0])}: {found} isn't a program that can be run; ./broker --prove builds the proved one")
+    return found
