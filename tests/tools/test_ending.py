@@ -33,6 +33,11 @@ def test_a_reader_that_is_gone_is_told_in_one_line():
     assert (it.returncode, it.stderr.count("\n")) == (6, 1)
 
 
+def test_a_file_that_isnt_there_is_named_in_one_line():
+    it = ended("open('/none')", stdout=subprocess.PIPE)
+    assert (it.returncode, it.stderr) == (2, "-c: /none: No such file or directory\n")
+
+
 def test_an_interrupt_has_its_status():
     assert ended("(_ for _ in ()).throw(KeyboardInterrupt)", stdout=subprocess.PIPE).returncode == 130
 

@@ -1,4 +1,4 @@
-"""How an executable ends: with its status, or with one line where its output can't be written or it is interrupted. Never with a traceback of these."""
+"""How an executable ends: with its status, or with one line where it is interrupted, its output can't be written, or a file can't be had. Never with a traceback of these."""
 from __future__ import annotations
 
 import errno
@@ -7,7 +7,7 @@ import os
 import signal
 import sys
 
-WRITE_FAULT, NO_MEMORY, INTERRUPTED = 6, 7, 130
+READ_FAULT, WRITE_FAULT, NO_MEMORY, INTERRUPTED = 2, 6, 7, 130
 OUT, ERR = 1, 2
 WANTS = (errno.ENOMEM, errno.EAGAIN, errno.EMFILE, errno.ENFILE)
 
@@ -101,8 +101,12 @@ def run(main):
     except KeyboardInterrupt:
         status = INTERRUPTED
     except (MemoryError, OSError, RuntimeError) as fault:
-        if not is_want(fault):
+        if is_want(fault):
+            say("no memory" if isinstance(fault, MemoryError) else f"the machine gives no more: {getattr(fault, 'strerror', None) or fault}")
+            status = NO_MEMORY
+        elif isinstance(fault, OSError) and fault.filename is not None:
+            say(f"{os.fsdecode(fault.filename)}: {fault.strerror}")
+            status = READ_FAULT
+        else:
             raise
-        say("no memory" if isinstance(fault, MemoryError) else f"the machine gives no more: {getattr(fault, 'strerror', None) or fault}")
-        status = NO_MEMORY
     raise SystemExit(WRITE_FAULT if raw.has_failed else status)
