@@ -12,7 +12,7 @@ from typing import Any, List, Optional, Tuple
 from tools.commands.real_workloads.finds import Finds
 from tools.commands.real_workloads.script_text import MOST_NODES, quoted
 
-LONGEST_PATH, LONGEST_NAME, LONGEST_TARGET = 4095, 255, 4095
+LONGEST_PATH, LONGEST_NAME = 4095, 255
 # what a call needs, and leaves: it was there, it wasn't, it wasn't and the call made it
 THERE, MISSING, MADE = "there", "missing", "made"
 KINDS = {stat.S_IFDIR: "dir", stat.S_IFREG: "reg", stat.S_IFIFO: "fifo", stat.S_IFSOCK: "sock", stat.S_IFCHR: "chr", stat.S_IFBLK: "blk"}

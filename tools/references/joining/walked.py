@@ -135,9 +135,6 @@ class Walked(Kernel):
 
     # ---- the worker
 
-    def in_hand(self, number):
-        return number in self.sessions
-
     def deed(self, number):
         """What a worker does next, as a function that does it; None where it would wait."""
         session = self.sessions.get(number)

@@ -570,7 +570,3 @@ class Definition:
     def first_fault(self):
         """The place of the least event that breaks a clause, the clause and its class; None where no event does."""
         return next(((at, *found) for at in range(len(self.events)) for found in [self.broken_at(at)] if found is not None), None)
-
-    def left_waiting(self):
-        """Whether a call waits at the end, received or not."""
-        return any(not call.is_answered for call in self.tables[len(self.events)].listed)
