@@ -29,7 +29,7 @@ from tools.checks.tallies import TrialParser, answer_of, statuses_told
 from tools.commands.command_line.top import TOP
 
 DONE, NO_MEMORY = (0, b""), (7, b"no memory\n")
-FILE_FAULTS = [*((2, b"read fault: %s\n" % name) for name in (b"policy", b"script", b"calls", b"requests")), (6, b"write fault\n")]
+FILE_FAULTS = [*((2, b"read fault: %s\n" % name) for name in (b"policy", b"script", b"calls", b"claims", b"requests")), (6, b"write fault\n")]
 # the variable that asks for a fault, what the faults are called, and the answers that may come of one
 KINDS = [
     ("FAIL_ALLOC", "allocations that fail", [DONE, NO_MEMORY]),
