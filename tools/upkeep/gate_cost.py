@@ -10,6 +10,8 @@ The table is printed behind what COMMAND says. With --write it replaces the one 
 
 Exit status: that of COMMAND.
 """
+from __future__ import annotations
+
 import argparse
 import datetime
 import os
@@ -22,6 +24,7 @@ import threading
 import time
 from collections import defaultdict
 from pathlib import Path
+from typing import Any, Dict, List, Sequence, Tuple
 
 from tools.commands.command_line import place
 from tools.commands.command_line.arguments import ToolParser
@@ -41,11 +44,11 @@ CHECK = re.compile(rb"(?:^|\0|/)tools/(?:checks|commands|upkeep)/([\w-]+)\0")
 class Process:
     """What is known of a process."""
 
-    def __init__(self, name, is_test):
+    def __init__(self, name: str, is_test: bool) -> None:
         self.name, self.is_test, self.seconds, self.memory = name, is_test, 0.0, 0
 
 
-def read(pid, name):
+def read(pid: int, name: str) -> bytes:
     with open(f"/proc/{pid}/{name}", "rb") as file:
         return file.read()
 
@@ -53,23 +56,24 @@ def read(pid, name):
 class Sampler:
     """Looks at all processes below this one."""
 
-    def __init__(self):
+    def __init__(self) -> None:
         # by number and start, and the last one of each number
-        self.known, self.last = {}, {}
+        self.known: Dict[Tuple[int, int], Process] = {}
+        self.last: Dict[int, Process] = {}
         self.largest_sum, self.is_over = 0, threading.Event()
 
-    def stat(self, pid):
+    def stat(self, pid: int) -> Tuple[int, float, int]:
         """The parent, the seconds, and when it was started, which tells it from another one of the same number."""
         fields = read(pid, "stat").rpartition(b")")[2].split()
         return int(fields[1]), (int(fields[11]) + int(fields[12])) / TICKS, int(fields[19])
 
-    def below(self):
+    def below(self) -> List[Tuple[int, Tuple[int, float, int]]]:
         """The processes below this one, each with its stat, parents first."""
         stats, children = {}, defaultdict(list)
         for name in os.listdir("/proc"):
             if name.isdecimal():
                 try:
-                    stats[int(name)] = self.stat(name)
+                    stats[int(name)] = self.stat(int(name))
                     children[stats[int(name)][0]].append(int(name))
                 except OSError:
                     pass
@@ -78,7 +82,7 @@ class Sampler:
             found += children[pid]
         return [(pid, stats[pid]) for pid in found[1:]]
 
-    def look(self):
+    def look(self) -> None:
         memory = 0
         for pid, (parent, seconds, started) in self.below():
             try:
@@ -96,13 +100,13 @@ class Sampler:
                 pass
         self.largest_sum = max(self.largest_sum, memory)
 
-    def run(self):
+    def run(self) -> None:
         while not self.is_over.wait(LOOK):
             self.look()
 
-    def rows(self, total):
+    def rows(self, total: float) -> Dict[str, List[Any]]:
         """Of each name the seconds, those of tests, and the largest memory in kB; seconds that no look has seen are of `others`."""
-        found = defaultdict(lambda: [0.0, 0.0, 0])
+        found: Dict[str, List[Any]] = defaultdict(lambda: [0.0, 0.0, 0])
         for it in self.known.values():
             row = found[it.name]
             row[0] += it.seconds
@@ -112,14 +116,14 @@ class Sampler:
         return dict(found)
 
 
-def machine():
+def machine() -> str:
     """The machine, as a text."""
     model = re.search(r"^model name\s*: (.*)$", Path("/proc/cpuinfo").read_text(), re.M)
     memory = os.sysconf("SC_PHYS_PAGES") * os.sysconf("SC_PAGE_SIZE") / 1e9
     return f"{len(os.sched_getaffinity(0))} processors ({model[1] if model else 'of an unknown kind'}), {memory:.0f} GB of memory"
 
 
-def table(words, rows, seconds, total, largest_sum):
+def table(words: Sequence[str], rows: Dict[str, List[Any]], seconds: float, total: float, largest_sum: int) -> str:
     commit = place.said_by("git", "-C", str(TOP), "describe", "--tags", "--always", "--dirty") or "no commit"
     small = [row for name, row in rows.items() if row[0] < LEAST and name != "others"]
     named = sorted(((name, row) for name, row in rows.items() if row[0] >= LEAST or name == "others"), key=lambda it: (it[0] == "others", -it[1][0]))
@@ -131,7 +135,7 @@ def table(words, rows, seconds, total, largest_sum):
             + "".join(f"| {name} | {row[0]:.0f} | {row[1]:.0f} | {row[2] / 1e6:.1f} |\n" for name, row in lines))
 
 
-def measured(words):
+def measured(words: Sequence[str]) -> Tuple[int, str]:
     """The exit status of a command, and the table of what it cost."""
     sampler, begun = Sampler(), time.monotonic()
     before = resource.getrusage(resource.RUSAGE_CHILDREN)
@@ -150,7 +154,7 @@ def measured(words):
     return status, table(words, sampler.rows(total), time.monotonic() - begun, total, sampler.largest_sum)
 
 
-def write(text):
+def write(text: str) -> None:
     document = DOCUMENT.read_text(encoding="utf-8")
     before, _, rest = document.partition(BEGIN)
     _, end, after = rest.partition(END)
@@ -159,7 +163,7 @@ def write(text):
     DOCUMENT.write_text(f"{before}{BEGIN}\n{text}\n{END}{after}", encoding="utf-8")
 
 
-def main():
+def main() -> int:
     parser = ToolParser()
     parser.add_argument("--write", action="store_true", help="writes the table into docs/inside/PROOF.md, if the command ends with 0")
     parser.add_argument("command", metavar="COMMAND ..", nargs=argparse.REMAINDER)

@@ -8,14 +8,18 @@ functions that executed the most instructions of their own, by callgrind_annotat
 
 Exit status: 0, 1 if a run fails, or 3 where valgrind isn't there.
 """
+from __future__ import annotations
+
 import os
 import re
 import shutil
 import subprocess
 import sys
 import tempfile
+from argparse import Namespace
+from typing import Iterator, List, Tuple
 
-from bench.inputs import devices, fill, filters, lives, nothing
+from bench.inputs import Input, devices, fill, filters, lives, nothing
 from bench.measure import program_or_exit
 from tools.commands.command_line.arguments import ToolParser
 from tools.commands.command_line.top import TOP
@@ -27,7 +31,7 @@ CALLS = 14_600
 TASKS = 3_900
 
 
-def arguments():
+def arguments() -> Namespace:
     parser = ToolParser()
     parser.add_argument("program", nargs="?", default=PROGRAM)
     parser.add_argument("--only", default="", metavar="TEXT", help="only the inputs whose name has this text")
@@ -35,14 +39,14 @@ def arguments():
     return parser.parse_args()
 
 
-def made(room, name, script):
+def made(room: str, name: str, script: Input) -> str:
     """A folder with the policy and the script of an input."""
     os.mkdir(f"{room}/{name}")
     script.write(f"{room}/{name}")
     return f"{room}/{name}"
 
 
-def inputs(program, room):
+def inputs(program: str, room: str) -> Iterator[Tuple[str, str, List[str]]]:
     """The name of each input, the folder to run in, and the words."""
     files = ["policy.json", "script.txt"]
     yield "empty play", made(room, "empty", nothing()), ["play", *files]
@@ -59,26 +63,26 @@ def inputs(program, room):
     yield "fill, a quarter", made(room, "fill", fill(4)), ["play", *files]
 
 
-def counted(program, folder, words, kept):
+def counted(program: str, folder: str, words: List[str], kept: str) -> Tuple[int, int]:
     """How many instructions a run executes, and how many events it tells of. Callgrind's own file is kept there."""
     command = ["valgrind", "--tool=callgrind", f"--callgrind-out-file={kept}", program, *words]
     ended = subprocess.run(command, cwd=folder, stdin=subprocess.DEVNULL, stdout=subprocess.PIPE, stderr=subprocess.PIPE)
     printed, said = ended.stdout.decode("latin-1"), ended.stderr.decode("latin-1")
     executed = re.search(r"Collected : (\d+)", said)
-    if ended.returncode != 0 or executed is None:
-        sys.exit(f"instructions: {' '.join(words)}: status {ended.returncode}: {said}")
     events = re.match(r"(?:yes|mediated) events=(\d+) ", printed) or re.search(r" events=(\d+) [^\n]*\n\Z", printed)
+    if ended.returncode != 0 or executed is None or events is None:
+        sys.exit(f"instructions: {' '.join(words)}: status {ended.returncode}: {said}")
     return int(executed[1]), int(events[1])
 
 
-def dearest(kept, number):
+def dearest(kept: str, number: int) -> List[str]:
     """The lines of callgrind_annotate on the functions that executed the most instructions of their own."""
     text = subprocess.run(["callgrind_annotate", "--threshold=99", kept], stdout=subprocess.PIPE, check=True).stdout.decode("latin-1")
     lines = [line.strip() for line in text.splitlines() if re.match(r"\s*[\d,]+ \(", line) and "PROGRAM TOTALS" not in line]
     return lines[:number]
 
 
-def main():
+def main() -> int:
     asked = arguments()
     if shutil.which("valgrind") is None:
         print("instructions: valgrind isn't there (Debian's package valgrind)", file=sys.stderr)

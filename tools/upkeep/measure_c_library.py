@@ -4,6 +4,8 @@
 
 There are CALLS calls, or 100,000.
 """
+from __future__ import annotations
+
 import subprocess
 import tempfile
 
@@ -14,7 +16,7 @@ COMPILE = ["cc", "-std=gnu11", "-O2", "-Wall", "-Wextra", "-Idist/include"]
 LINK = ["dist/lib/libseccomp_broker.a", "-pthread", "-Wl,--wrap=malloc,--wrap=realloc,--wrap=free"]
 
 
-def main():
+def main() -> int:
     parser = ToolParser()
     parser.add_argument("calls", metavar="CALLS", nargs="?", type=int, default=100_000)
     calls = parser.parse_args().calls

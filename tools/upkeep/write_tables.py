@@ -8,6 +8,7 @@ Exit status: 0 if all pages have them, 1 if one doesn't, or if a row is at fault
 from __future__ import annotations
 
 import sys
+from typing import Iterator
 
 from tools.commands.command_line.arguments import ToolParser
 from tools.commands.command_line.top import TOP
@@ -33,7 +34,7 @@ TABLES = (
 )
 
 
-def faults(check):
+def faults(check: bool) -> Iterator[str]:
     """What is wrong; each page that has other tables is written, unless it is only checked."""
     yield from linux.faults()
     for name in sorted({it.page for it in TABLES}):

@@ -2,6 +2,7 @@
 from __future__ import annotations
 
 import re
+from typing import Any, Pattern, Tuple
 
 from tools.commands.pages.reports import NotAReport, lines_of
 
@@ -13,14 +14,14 @@ class Lines:
         self.lines, self.at = lines_of(data, most=len(data)), 0
 
     @property
-    def next(self):
+    def next(self) -> str:
         """The next line, where there is one."""
         return self.lines[self.at]
 
     def next_is(self, text: str) -> bool:
         return self.at < len(self.lines) and self.lines[self.at].startswith(text)
 
-    def take(self, form, what):
+    def take(self, form: Pattern[str], what: str) -> Tuple[Any, ...]:
         """The parts of the next line, which has this form."""
         parts = form.fullmatch(self.lines[self.at]) if self.at < len(self.lines) else None
         if parts is None:

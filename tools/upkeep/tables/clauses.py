@@ -19,12 +19,12 @@ class Shown(NamedTuple):
     picture: str
 
 
-def brokers():
+def brokers() -> List[Shown]:
     """The brokers in the order of the clauses."""
     text = (TOP / BROKERS).read_text(encoding="utf-8")
     tree = ast.parse(text)
-    code = {it.name: ast.get_source_segment(text, it) for it in tree.body if isinstance(it, ast.ClassDef)}
-    listed = next(it.value for it in tree.body if isinstance(it, ast.Assign) and getattr(it.targets[0], "id", None) == "CLAUSES")
+    code = {it.name: ast.get_source_segment(text, it) or "" for it in tree.body if isinstance(it, ast.ClassDef)}
+    listed: Any = next(it.value for it in tree.body if isinstance(it, ast.Assign) and getattr(it.targets[0], "id", None) == "CLAUSES")
     return [Shown(code[it.args[0].id], it.args[1].value) for it in listed.elts]
 
 

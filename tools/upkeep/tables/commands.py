@@ -1,6 +1,8 @@
 """The commands, as COMMANDS has them: of the table that `help` and the man page are made of."""
 from __future__ import annotations
 
+from typing import Any, Dict
+
 from tools.commands.command_line import pages, table
 from tools.upkeep.tables.page import rows
 
@@ -11,7 +13,7 @@ def filled(text: str) -> str:
     return pages.filled(text, "seccomp-broker", "examples")
 
 
-def section(known, entry):
+def section(known: Dict[str, Any], entry: Dict[str, Any]) -> str:
     forms = "\n".join(filled(f"    {{command}} {entry['word']} {form}").rstrip() for form in entry["forms"])
     parts = [f"### `{entry['word']}`", forms, filled(f"{entry['summary'][0].upper()}{entry['summary'][1:]}."), *(filled(text) for text in entry["text"])]
     of_all = {known[name]["names"][0] for name in ("explain", "plain")}

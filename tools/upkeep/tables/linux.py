@@ -1,5 +1,8 @@
 """The differences from Linux, as LINUX and LINUX_MEASURED have them: of the known differences that `on-linux` reads."""
+from __future__ import annotations
+
 from pathlib import Path
+from typing import Any, Callable, Dict, List
 
 from tools.commands.linux_stage import differences
 from tools.commands.command_line.top import TOP
@@ -9,27 +12,27 @@ LONG = "| difference | Linux | here | why | for a test | seen in |\n|---|---|---
 KEYS = {"name", "misleads", "what", "linux", "here", "why", "test", "seen", "stored", "shown", "case"}
 
 
-def case_of(row, top):
+def case_of(row: Dict[str, Any], top: str) -> str:
     """A link to the case that shows it; empty if there is none."""
     return f"[{Path(row['case']).parts[0].removesuffix('s')}]({top}{row['case']})" if row["case"] else ""
 
 
-def seen_in(row, top):
+def seen_in(row: Dict[str, Any], top: str) -> str:
     """Where it was seen, with its case."""
     scripts = f"{row['stored']} script{'s' if row['stored'] > 1 else ''}"
     place = scripts if row["seen"] == "scripts" else row["seen"]
     return f"{place}; {case_of(row, top)}" if row["case"] else place
 
 
-def short(row):
+def short(row: Dict[str, Any]) -> List[str]:
     return [f"**{row['name']}** {row['what']}", row["test"], case_of(row, "../")]
 
 
-def long(row):
+def long(row: Dict[str, Any]) -> List[str]:
     return [f"**{row['name']}** {row['what']}", row["linux"], row["here"], row["why"], row["test"], seen_in(row, "../../")]
 
 
-def tables(head, columns):
+def tables(head: str, columns: Callable[[Dict[str, Any]], List[str]]) -> str:
     """A table of each kind of differences, with these columns."""
     parts = []
     for kind, title in differences.KINDS.items():
@@ -38,15 +41,15 @@ def tables(head, columns):
     return "\n".join(parts)
 
 
-def short_tables():
+def short_tables() -> str:
     return tables(SHORT, short)
 
 
-def long_tables():
+def long_tables() -> str:
     return tables(LONG, long)
 
 
-def faults():
+def faults() -> List[str]:
     """What is wrong with the rows."""
     rows = differences.table()
     found = [f"{row.get('name')}: its keys aren't {', '.join(sorted(KEYS))}" for row in rows if set(row) != KEYS]

@@ -1,7 +1,7 @@
 """The lines of a script, as SCRIPT has them: of the table by which refusals are explained."""
 from __future__ import annotations
 
-from typing import TYPE_CHECKING, Optional
+from typing import TYPE_CHECKING, Dict, List, Optional
 
 from tools.commands.messages import script_words as words
 from tools.upkeep.tables.page import rows
@@ -27,9 +27,9 @@ def usages(form: Form) -> str:
     return ", ".join(f"`{it}`" for it in (words.KILL_FORMS if form.word == "kill" else [form.usage]))
 
 
-def ranges(form):
+def ranges(form: Form) -> str:
     operands = [*form.operands, *(it for whom in words.KILL_WITH_NUMBER.values() for it in whom.operands if form.word == "kill")]
-    spans = {}
+    spans: Dict[Optional[str], List[str]] = {}
     for operand in operands:
         spans.setdefault(span(operand), []).append(operand.name)
     return "; ".join(f"{', '.join(names)} {text}" for text, names in spans.items() if text)
