@@ -11,6 +11,7 @@ from tools.commands.linux_stage import apart, journal, machine, scenes, script_t
 from tools.commands.linux_stage.machine import Stop
 from tools.commands.linux_stage.play import Difference, Play
 from tools.commands.linux_stage.stage import Stage
+from tools.references.stepping.scripts import read_script
 
 # A process with priority may not have its processor for a whole second: then those without run, which are to stand still.
 SECONDS_WITH_PRIORITY = 0.8
@@ -62,7 +63,7 @@ class Way(NamedTuple):
 
 def ways(script: bytes) -> List[Way]:
     """The ways in which a script is compared: as it stands, and with other PIDs where its first task would be PID 1."""
-    if not is_readable(script) or script_text.settings(script).pidbase:
+    if not script_text.has_low_pids(script):
         return [Way("", script, False)]
     return [Way("", script, True), Way(f" with {script_text.HIGH_PIDS.decode()}", script_text.with_high_pids(script), False)]
 
@@ -79,32 +80,23 @@ def compare(bench, policy, script, change=None, as_init=False):
     steps = scenes.steps(policy, script)
     lines = change(lines) if change else lines
     begun = time.monotonic()
-    told = compare_there(bench, script_text.settings(script), list(map(journal.event, lines)), steps, as_init)
+    told = compare_there(bench, read_script(script), list(map(journal.event, lines)), steps, as_init)
     time.sleep(0.005 + (time.monotonic() - begun) / 8)  # the processor is left to others for a while
     differences = [Difference(*difference) for difference in told.pop("differences")]
     return Result(differences=differences, journal=lines, **told)
 
 
-def is_readable(script: bytes) -> bool:
-    """Whether the settings can be read; where they can't, the program refuses the script."""
-    try:
-        script_text.settings(script)
-        return True
-    except (KeyError, ValueError, IndexError, UnicodeDecodeError):
-        return False
-
-
-def compare_there(bench, settings, events, steps, as_init):
+def compare_there(bench, container, events, steps, as_init):
     """Compares in namespaces of its own."""
     try:
-        told = apart.in_namespaces(lambda: compare_here(bench, settings, events, steps, as_init), LIMIT_SECONDS)
+        told = apart.in_namespaces(lambda: compare_here(bench, container, events, steps, as_init), LIMIT_SECONDS)
     except TimeoutError:
         return dict(differences=[], compared=0, stopped="it took too long")
     return told or dict(differences=[], compared=0, stopped="the process that compares ended")
 
 
-def compare_here(bench, settings, events, steps, as_init):
-    stage = Stage(settings, bench.stand_in, bench.room, bench.processor, as_init)
+def compare_here(bench, container, events, steps, as_init):
+    stage = Stage(container, bench.stand_in, bench.room, bench.processor, as_init)
     play, stopped = Play(stage, events, steps), ""
     try:
         stage.build(journal.workers(events))

@@ -1,5 +1,6 @@
 """Drawn scripts about paths, mounts, memory, descriptors and arguments."""
-from tools.commands.linux_stage.drawn_scripts import Draft, poke, quoted, rule, served
+from tools.commands.linux_stage.drawn_scripts import Draft, poke, rule, served
+from tools.commands.real_workloads.script_text import quoted
 
 NAMES = [b"a", b"b", b"c", b"d", b"e", b"l1", b"l2", b"l3"]
 OPEN_PATH = "0o10000000"
@@ -110,8 +111,8 @@ def plain(line):
         head, _, text = line[:-1].rpartition('"')
         return f'{head}"{text.rstrip("/") or "/"}"'
     if line.startswith("poke 0x10000"):
-        head, _, text = line.removesuffix('\\x00"').rpartition('"')
-        return f'{head}"{text.rstrip("/") or "/"}\\x00"'
+        head, _, text = line.removesuffix('\\0"').rpartition('"')
+        return f'{head}"{text.rstrip("/") or "/"}\\0"'
     return line
 
 

@@ -6,6 +6,8 @@ import json
 import random
 from dataclasses import dataclass, field
 
+from tools.commands.real_workloads.script_text import quoted
+
 
 @dataclass
 class Draft:
@@ -25,11 +27,6 @@ class Draft:
         for name, body in self.programs:
             lines += [f"prog {name}", *body, "end"]
         return "\n".join([*lines, "schedule", *self.schedule, "end", ""]).encode()
-
-
-def quoted(text):
-    """A text as a script states it."""
-    return '"' + "".join(chr(byte) if 0x20 <= byte < 0x7F and byte not in b'"\\' else f"\\x{byte:02x}" for byte in text) + '"'
 
 
 def poke(address, text):

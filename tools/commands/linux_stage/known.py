@@ -8,9 +8,10 @@ from __future__ import annotations
 from typing import NamedTuple, Optional, Tuple
 
 from tools.commands.linux_stage import attributes
-from tools.commands.linux_stage.machine import CALLS, KINDS, SET_NUMBER, error_name
+from tools.commands.linux_stage.machine import KINDS, SET_NUMBER, error_name
 from tools.commands.linux_stage.scenes import Step
 from tools.references.stepping import filters
+from tools.references.stepping.facts import CALL_NAMES
 
 WALK = ("ENOENT", "ENOTDIR", "ELOOP", "ENAMETOOLONG")
 OF_PROBES = {335: "dead", 336: "ENXIO"}
@@ -26,7 +27,6 @@ O_CREAT = 0o100
 # the flags of openat for which it has this error of its own: O_CREAT with O_EXCL, O_CREAT or access to write, O_DIRECTORY, O_NOFOLLOW
 OPENING = {"EEXIST": 0o300, "EISDIR": 0o103, "ENOTDIR": 0o200000, "ELOOP": 0o400000}
 RESTARTS = ("E512", "E513", "E514", "E516")
-NAMES = {number: name for name, number in CALLS.items()}
 
 
 class Known(NamedTuple):
@@ -72,9 +72,9 @@ def of_native(linux, here, step, place):
         return Known("instruction-pointer", True)
     if step.is_torn and linux not in ("notify", "dead"):
         return Known("sysinfo-part", True)
-    if number not in NAMES:
+    if number not in CALL_NAMES:
         return Known("other-calls", linux == "dead") if here == "ENOSYS" and linux != "notify" else None
-    name = NAMES[number]
+    name = CALL_NAMES[number]
     found = OF_CALLS[name](arguments, linux, here, step) if name in OF_CALLS else None
     if name in ("openat", "mknodat") and (linux, here) == ("ENOTDIR", "EBADF") and step.is_other_node:
         found = Known("dirfd-not-a-directory")

@@ -4,20 +4,15 @@ import itertools
 import os
 import struct
 
-from tools.commands.linux_stage import comparison, machine, script_text
-from tools.commands.linux_stage.machine import ALLOW
+from tools.commands.linux_stage import comparison, machine
+from tools.commands.real_workloads import bpf
 
 TEXT = "ret 0x7fff0000"
-TAKE = (6, 0, 0, ALLOW)
+TAKE = (6, 0, 0, bpf.ALLOW)
 # with the index register, scratch words, multiplication, division, and a return of the accumulator
 LEFT_OUT = {0x01, 0x02, 0x03, 0x07, 0x0C, 0x16, 0x1C, 0x1D, 0x24, 0x2C, 0x2D, 0x34, 0x3C, 0x3D, 0x4C, 0x4D, 0x5C, 0x6C, 0x7C, 0x80, 0x81, 0x87, 0xAC}
 # how many filters of how many instructions, and whether Linux takes them: it counts the instructions that it makes of these
 CHAINS = ((16, 1, "ok"), (16, 2044, "ENOMEM"), (16, 2045, "ENOMEM"), (7, 4096, "ok"), (8, 4096, "ENOMEM"), (16, 4096, "ENOMEM"), (17, 1, "ok"))
-WRITABLE = set(script_text.WORDS.values())
-
-
-def program(*instructions):
-    return b"".join(struct.pack("<HBBI", *instruction) for instruction in instructions)
 
 
 def installed(filter_bytes):
@@ -57,8 +52,8 @@ def run(bench, notes):
 
 def texts(bench, note):
     for lines in edges():
-        instructions = [script_text.instruction(line.split()) for line in lines]
-        note(" ; ".join(lines)[:70], taken(program(*instructions)), accepted(bench, [lines]), "action-trap" if "ret 0x3000" in " ".join(lines) else "", "ok")
+        instructions = map(bpf.instruction_of, map(str.split, lines))
+        note(" ; ".join(lines)[:70], taken(bpf.to_bytes(instructions)), accepted(bench, [lines]), "action-trap" if "ret 0x3000" in " ".join(lines) else "", "ok")
 
 
 def accepted(bench, filters):
@@ -93,16 +88,16 @@ def edges():
 
 def codes(note):
     for code in [*range(256), 0x100, 0x120, 0x1006, 0x8020, 0xFFFF]:
-        came = taken(program((code, 0, 0, 4), TAKE))
+        came = taken(bpf.to_bytes([(code, 0, 0, 4), TAKE]))
         # with K 4 a plain jump leads behind the end
-        expected = "ok" if code in WRITABLE and code != script_text.WORDS["ja"] else "EINVAL"
+        expected = "ok" if code in bpf.NAMES and code != bpf.WORDS["ja"] else "EINVAL"
         note(f"code 0x{code:x} with K 4", came, expected, "filter-instructions" if code in LEFT_OUT else "", "ok")
 
 
 # ---- chains
 
 def chain(count, length):
-    filter_bytes = program(*[(0, 0, 0, 0)] * (length - 1), TAKE)
+    filter_bytes = bpf.to_bytes([(0, 0, 0, 0)] * (length - 1) + [TAKE])
     status = apart(lambda: next((error for error in (installed(filter_bytes) for _ in range(count)) if error), 0))
     return "ok" if status == 0 else machine.error_name(status)
 
@@ -128,12 +123,12 @@ def ended_by(filter_bytes, number=500):
 
 def only(number, *instructions):
     """A filter that asks these of one call, and allows the others."""
-    return program((0x20, 0, 0, 0), (0x15, 1, 0, number), TAKE, *instructions)
+    return bpf.to_bytes([(0x20, 0, 0, 0), (0x15, 1, 0, number), TAKE, *instructions])
 
 
 def starts(note):
     first, second = (6, 0, 0, 0x50001), (6, 0, 0, 0x50002)
-    note("the accumulator is 0 at the start", ended_by(program((0x15, 1, 0, 0), TAKE, (0x20, 0, 0, 0), (0x15, 1, 0, 500), TAKE, first)), "EPERM")
+    note("the accumulator is 0 at the start", ended_by(bpf.to_bytes([(0x15, 1, 0, 0), TAKE, (0x20, 0, 0, 0), (0x15, 1, 0, 500), TAKE, first])), "EPERM")
     for at, half in ((8, "low"), (12, "high")):
         note(f"the {half} half of the instruction pointer is 0", ended_by(only(500, (0x20, 0, 0, at), (0x15, 0, 1, 0), first, second)), "EPERM", "instruction-pointer", "ENOENT")
     for number in (335, 336):

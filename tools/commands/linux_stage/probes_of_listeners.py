@@ -3,11 +3,13 @@ import signal
 import struct
 import time
 
-from tools.commands.linux_stage import machine, script_text
-from tools.commands.linux_stage.machine import ADD_DESCRIPTOR, AND_SEND, CALLS, CONTINUE, ID_VALID, RECEIVE, SEND, SET_NUMBER, answer
+from tools.commands.linux_stage import machine
+from tools.commands.linux_stage.machine import ADD_DESCRIPTOR, AND_SEND, CONTINUE, ID_VALID, RECEIVE, SEND, SET_NUMBER, answer
 from tools.commands.linux_stage.play import Play
 from tools.commands.linux_stage.stage import LISTENER, Stage
 from tools.commands.linux_stage.stand_in import Order
+from tools.commands.real_workloads.script_text import CALLS
+from tools.references.stepping.scripts import read_script
 
 SETTINGS = b"pidbase 299\nbroker 5\nrlimit 8\n"
 GETPID = CALLS["getpid"]
@@ -21,7 +23,7 @@ class Scene:
     """A task that makes notified calls, and three workers."""
 
     def __init__(self, bench, killable=False, settings=SETTINGS + b"notify getpid mknod\n"):
-        self.stage = Stage(script_text.settings(settings + (b"killable\n" if killable else b"")), bench.stand_in, bench.room, bench.processor)
+        self.stage = Stage(read_script(settings + b"killable\n" * killable + b"prog main\nend\n"), bench.stand_in, bench.room, bench.processor)
         self.stage.build({1, 2})
         machine.run_first(0, 50)
         play = Play(self.stage, [])

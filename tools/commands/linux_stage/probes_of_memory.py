@@ -3,11 +3,12 @@ import ctypes
 import os
 
 from tools.commands.linux_stage import apart, machine
-from tools.commands.linux_stage.machine import CALLS, answer
+from tools.commands.linux_stage.machine import answer
 from tools.commands.linux_stage.probes_of_listeners import SETTINGS, Scene
 from tools.commands.linux_stage.script_text import FIRST_FREE_PID
 from tools.commands.linux_stage.stage import PROC
 from tools.commands.linux_stage.stand_in import Order
+from tools.commands.real_workloads.script_text import CALLS
 
 START, END, TEXT = 0x1F000, 0x20000, b"abcdefgh" * 600
 GREATEST_PID = 320

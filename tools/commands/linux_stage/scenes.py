@@ -65,7 +65,7 @@ class Step:
     is_torn: bool = False  # it looks at bytes that only Linux has written
     has_ended: bool = False  # so have all tasks that it is about
     length: int = 0  # of a worker's read
-    written: bytes = b""  # by a worker
+    written: bytes = b""  # by a worker, or by a native sysinfo
     fitting: int = 0  # how many bytes there are mapped where it writes
     pending: frozenset = frozenset()  # signals
     fatal: frozenset = frozenset()  # those of them that end the task
@@ -185,6 +185,7 @@ class WatchedKernel(Kernel):
         step.is_full = group.lowest_free(self.container.rlimit) is None
         step.is_cut = name == "setxattr" and 0 < args[3] <= MOST_OF_A_VALUE and not group.is_mapped(args[2], args[3])
         if name == "sysinfo":
+            step.written = self.host_sysinfo()
             self.tear(group, args[0])
         if name in PATHS:
             self.look_at_path(task, name, base_of(number, args), step.texts[PATHS[name]])

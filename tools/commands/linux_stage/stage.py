@@ -14,6 +14,8 @@ import time
 from tools.commands.linux_stage import machine, script_text
 from tools.commands.linux_stage.machine import KINDS, CannotMap, Stop, mount
 from tools.commands.linux_stage.stand_in import FIRST_WORKER, MAILBOX, SLOTS, Order, Task, Worker
+from tools.commands.real_workloads import bpf
+from tools.commands.real_workloads.script_text import CALLS, FIRST_ADDRESS, FIRST_PAGES
 
 # descriptors of the broker that no script's number reaches
 PROC, LISTENER, FIRST_OF_WORKERS = 1100, 1101, 1200
@@ -33,8 +35,22 @@ def device(major, minor):
     return (minor & 0xFF) | (major << 8) | ((minor & ~0xFF) << 12)
 
 
+def make_node(path, node):
+    if node.kind == "dir":
+        os.mkdir(path, 0o777)
+    elif node.kind == "link":
+        os.symlink(node.target, path)
+    else:
+        os.mknod(path, KINDS[node.kind] | 0o666, os.makedev(*node.device) if node.device else 0)
+
+
+def coded(word, value, then, otherwise):
+    """An instruction of a script's filter as the kernel takes it."""
+    return bpf.Instruction(bpf.WORDS[word], then, otherwise, value)
+
+
 class Stage:
-    """`as_init` says that the first task is the first process of a PID namespace of its own: PID 1 there."""
+    """`settings` is what the script states. `as_init` says that the first task is the first process of a PID namespace of its own: PID 1 there."""
 
     def __init__(self, settings, program, room, processor, as_init=False):
         self.settings, self.program, self.room, self.processor, self.as_init = settings, program, room, processor, as_init
@@ -45,9 +61,7 @@ class Stage:
     def build(self, workers):
         os.sched_setaffinity(0, {self.processor})
         self.make_file_systems()
-        for words in self.settings.tree:
-            self.make_node(*words)
-        self.root = os.path.normpath(self.host.encode() + self.settings.root)
+        self.make_tree()
         self.make_mailboxes()
         self.make_broker()
         for number in sorted(workers):
@@ -67,17 +81,14 @@ class Stage:
         mount("proc", "/proc", "proc")
         os.umask(0)
 
-    def make_node(self, kind, path, *operands):
-        path = self.host.encode() + path
-        if kind == "dir":
-            os.mkdir(path, 0o777)
-        elif kind == "link":
-            os.symlink(operands[0], path)
-        elif kind == "attr":
-            os.setxattr(path, *operands, follow_symlinks=False)
-        else:
-            numbers = os.makedev(*map(script_text.number, operands)) if operands else 0
-            os.mknod(path, KINDS[kind] | 0o666, numbers)
+    def make_tree(self):
+        paths = [self.host.encode()]
+        for node in self.settings.nodes[1:]:
+            paths.append(b"/".join([paths[node.directory], node.name]))
+            make_node(paths[-1], node)
+        for (node, name), value in self.settings.attributes.items():
+            os.setxattr(paths[node], name, value, follow_symlinks=False)
+        self.root = paths[self.settings.root]
 
     def make_mailboxes(self):
         self.boxes_file = os.memfd_create("mailboxes", 0)
@@ -164,7 +175,7 @@ class Stage:
             return
         if self.broker.own_call(machine.DUP2, made, number) != number:
             raise Stop(f"descriptor {number} of the broker")
-        self.broker.own_call(machine.CALLS["close"], made)
+        self.broker.own_call(CALLS["close"], made)
 
     def worker(self, number):
         if number not in self.workers:
@@ -199,14 +210,14 @@ class Stage:
         self.tasks["0"] = task
         self.code = task.addresses()
         self.call_address = self.code.script_call_after
-        for address, pages in self.settings.map:
+        for address, pages in self.settings.ranges or [(FIRST_ADDRESS, FIRST_PAGES)]:
             got = task.own_call(machine.MMAP, address, pages * 4096, 3, 0x100032, -1, 0)
             if got != address:
                 raise CannotMap(address + pages * 4096, -got)
         resource.prlimit(task.pid, resource.RLIMIT_CORE, (0, 0))
         for instructions, listens in self.settings.filters:
             self.install_filter(task, instructions, listens)
-        if self.settings.has_listener:
+        if script_text.has_listener(self.settings):
             self.first_id = self.own_id(task) + 1
         self.drop_capabilities(task)
         resource.prlimit(task.pid, resource.RLIMIT_NOFILE, (self.settings.rlimit, self.settings.rlimit))
@@ -216,11 +227,11 @@ class Stage:
     def install_filter(self, task, instructions, listens):
         """Installs a filter behind instructions that allow the stand-in's own calls, but for one that they notify, and gives its listener to the broker."""
         low, high = self.code.own_call_after & 0xFFFFFFFF, self.code.own_call_after >> 32
-        notify = [(0x20, 0, 0, 0), (0x15, 0, 1, OWN_NOTIFIED), (6, 0, 0, machine.NOTIFY)] if listens else []
+        notify = [("ld", 0, 0, 0), ("jeq", OWN_NOTIFIED, 0, 1), ("ret", bpf.NOTIFY, 0, 0)] if listens else []
         left = len(notify) + 1
-        own = [(0x20, 0, 0, 12), (0x15, 0, left + 2, high), (0x20, 0, 0, 8), (0x15, 0, left, low), *notify, (6, 0, 0, machine.ALLOW), (0, 0, 0, 0)]
-        program = [*own, *instructions]
-        text = task.put(b"".join(struct.pack("<HBBI", *instruction) for instruction in program), FILTER_TEXT)
+        own = [("ld", 12, 0, 0), ("jeq", high, 0, left + 2), ("ld", 8, 0, 0), ("jeq", low, 0, left), *notify, ("ret", bpf.ALLOW, 0, 0), ("ldi", 0, 0, 0)]
+        program = [coded(*instruction) for instruction in [*own, *instructions]]
+        text = task.put(bpf.to_bytes(program), FILTER_TEXT)
         flags = (machine.NEW_LISTENER | (machine.WAIT_KILLABLE if self.settings.killable else 0)) if listens else 0
         listener = task.own_call(machine.SECCOMP, 1, flags, task.put(struct.pack("<HxxxxxxQ", len(program), text)))
         if listener < 0:
@@ -243,9 +254,9 @@ class Stage:
         taken = self.broker.own_call(machine.PIDFD_GETFD, held, listener, 0)
         if self.broker.own_call(machine.DUP2, taken, LISTENER) != LISTENER:
             raise Stop("the listener can't be taken")
-        self.broker.own_call(machine.CALLS["close"], taken)
-        self.broker.own_call(machine.CALLS["close"], held)
-        task.own_call(machine.CALLS["close"], listener)
+        self.broker.own_call(CALLS["close"], taken)
+        self.broker.own_call(CALLS["close"], held)
+        task.own_call(CALLS["close"], listener)
 
     def drop_capabilities(self, task):
         """A container's root without the rights to mount and to make devices."""

@@ -6,10 +6,11 @@ import time
 from bisect import bisect_right
 
 from tools.commands.linux_stage import known, machine
-from tools.commands.linux_stage.machine import CALLS, Stop, answer
+from tools.commands.linux_stage.machine import Stop, answer
 from tools.commands.linux_stage.script_text import FIRST_FREE_PID
 from tools.commands.linux_stage.stage import CLONE_FILES, CLONE_VM
 from tools.commands.linux_stage.stand_in import Order
+from tools.commands.real_workloads.script_text import CALLS
 
 MODES = {"default": 0, "restart": 1, "plain": 2}
 EVERYBODY = 2**32 - 1  # -1 as kill(2) takes it
@@ -284,7 +285,7 @@ class TaskEvents:
         """The script's figures are written over the machine's."""
         with open(f"/proc/{task.pid}/mem", "r+b", buffering=0) as memory:
             memory.seek(address)
-            memory.write(self.play.of_workers.figures(self.play.settings.cgroup[:1]))
+            memory.write(self.play.step.written)
 
     def do_resume(self, task, back):
         # An answer that was taken wins over signals, so the task may be let run later: the native call belongs to the next step, and a task

@@ -5,10 +5,12 @@ from dataclasses import dataclass
 from tools.commands.linux_stage import machine
 from tools.commands.linux_stage.journal import HANDS
 from tools.commands.linux_stage.known import OTHER_ACTS, mount_flags
-from tools.commands.linux_stage.machine import ADD_DESCRIPTOR, AND_SEND, CALLS, CONTINUE, ID_VALID, IOCTL, KINDS, RECEIVE, SEND, X86_64, answer
-from tools.commands.linux_stage.script_text import tokens
+from tools.commands.linux_stage.machine import ADD_DESCRIPTOR, AND_SEND, CONTINUE, ID_VALID, IOCTL, KINDS, RECEIVE, SEND, answer
+from tools.commands.linux_stage.script_text import has_listener
 from tools.commands.linux_stage.stage import FIRST_OF_WORKERS, LISTENER, PROC, device
 from tools.commands.linux_stage.stand_in import SECOND_TEXT, THIRD_TEXT, Order, Worker
+from tools.commands.real_workloads.bpf import X86_64
+from tools.commands.real_workloads.script_text import CALLS, tokens
 from tools.references.stepping.reports import asked_text
 
 F_DUPFD = 0
@@ -29,7 +31,7 @@ class Request:
 
 class WorkerEvents:
     def __init__(self, play):
-        self.play, self.stage, self.settings = play, play.stage, play.stage.settings
+        self.play, self.stage = play, play.stage
         self.same, self.differs = play.same, play.differs
 
     def take(self, event):
@@ -40,7 +42,7 @@ class WorkerEvents:
 
     def request_fields(self, event):
         """Texts of a request may have blanks."""
-        words = tokens(event.line.encode())
+        words = tokens(event.line)
         return words[words.index("act") + 1:]
 
     # ---- the listener
@@ -58,7 +60,7 @@ class WorkerEvents:
         if worker.request:
             hand = worker.request.hand
             self.same("take", answer(hand.result()) if hand.is_idle() else "waits", "waits")
-        elif self.settings.has_listener:
+        elif has_listener(self.stage.settings):
             self.compare_waiting(worker)
 
     def compare_waiting(self, worker):
@@ -191,16 +193,6 @@ class WorkerEvents:
         fault = self.is_fault(result, int(address))
         linux = {SYSINFO: "ok", 0: "end of file"}.get(result, "EFAULT" if fault else f"wrote {result}" if result >= 0 else answer(result))
         self.same("write", linux, came)
-
-    def figures(self, groups):
-        """The answer of sysinfo under the limits of these groups."""
-        uptime, used, shared, buffers, swapped, processes = self.settings.figures
-        memory = min([group[0] for group in groups], default=0)
-        swap = min([group[1] for group in groups], default=0)
-        text = bytearray(SYSINFO)
-        struct.pack_into("<Q24xQQQQQQH", text, 0, uptime, memory, max(0, memory - used), shared, buffers, swap, max(0, swap - swapped), processes)
-        struct.pack_into("<I", text, 104, 1)
-        return bytes(text)
 
     # ---- effects
 
