@@ -5,13 +5,14 @@ is one that the cause gives, and the cause is present in this very step. So anot
 """
 from __future__ import annotations
 
-from typing import NamedTuple, Optional, Tuple
+from typing import Callable, NamedTuple, Optional, Tuple
 
 from tools.commands.linux_stage import attributes
 from tools.commands.linux_stage.machine import KINDS, SET_NUMBER, error_name
-from tools.commands.linux_stage.scenes import Step
+from tools.commands.linux_stage.scenes import SYSINFO_SIZE, Put, Step
 from tools.references.stepping import filters
 from tools.references.stepping.facts import CALL_NAMES
+from tools.references.stepping.kernel import MOST_DESCRIPTORS
 
 WALK = ("ENOENT", "ENOTDIR", "ELOOP", "ENAMETOOLONG")
 OF_PROBES = {335: "dead", 336: "ENXIO"}
@@ -21,8 +22,6 @@ OTHER_ACTS = FROM_SOURCE | 0x20 | 0xF << 17
 REFUSED_FLAGS = 2**64 - 2**31
 MAGIC, OF_MAGIC = 0xC0ED0000, 0xFFFF0000
 END_OF_ADDRESSES = 2**47
-MOST_DESCRIPTORS = 1048576
-SYSINFO = 112
 O_CREAT = 0o100
 # the flags of openat for which it has this error of its own: O_CREAT with O_EXCL, O_CREAT or access to write, O_DIRECTORY, O_NOFOLLOW
 OPENING = {"EEXIST": 0o300, "EISDIR": 0o103, "ENOTDIR": 0o200000, "ELOOP": 0o400000}
@@ -43,247 +42,244 @@ class Place(NamedTuple):
     is_orphan: bool = False  # the step is about a task whose parent has ended
 
 
-def find(line: str, what: str, linux: str, here: str, step: Step, place: Place) -> "Known | None":
+class Seen(NamedTuple):
+    """Two answers that differ, and where."""
+
+    linux: str
+    here: str
+    step: Step
+    place: Place
+
+    @property
+    def pair(self) -> Tuple[str, str]:
+        return self.linux, self.here
+
+    @property
+    def is_done(self) -> bool:
+        """Whether one of the two succeeded."""
+        return any(answer == "ok" or answer.isdigit() for answer in self.pair)
+
+
+class Rule(NamedTuple):
+    """A name, where it is given, and when. `apart` is None where the kernels differ from here on if one of the two succeeded."""
+
+    at: Tuple[str, ...]
+    name: str
+    apart: Optional[bool]
+    is_cause: Callable[[Seen], object]
+
+
+def find(line: str, what: str, linux: str, here: str, step: Step, place: Place) -> Optional[Known]:
     """The known difference of a step, or None; `what` says what was compared. None too if the journal has another line than the step has to have."""
     if line != step.line:
         return None
-    rule = next((rule for begin, rule in RULES.items() if what.startswith(begin)), None)
-    return rule(linux, here, step, place) if rule else None
-
-
-# ---- walks
-
-def of_path(linux: str, here: str, step: Step, place: Place) -> Optional[Known]:
-    walked, done = step.walked, any(answer == "ok" or answer.isdigit() for answer in (linux, here))
-    if walked.onto_mount and (linux.isdigit() or linux in (*WALK, "ok", "EEXIST", "EPERM", "EBUSY")):
-        return Known("dot-dot-under-mount", True)
-    if walked.slash and linux in ("ENOENT", "ENOTDIR"):
-        return Known("trailing-slash", done)
-    return None
-
-
-# ---- native calls
-
-def of_native(linux, here, step, place):
-    number, arguments = step.call
-    if number in OF_PROBES:
-        return Known("calls-no-filter-sees", True) if linux == OF_PROBES[number] else None
-    if is_seen_otherwise(linux, step, place):
-        return Known("instruction-pointer", True)
-    if step.is_torn and linux not in ("notify", "dead"):
-        return Known("sysinfo-part", True)
-    if number not in CALL_NAMES:
-        return Known("other-calls", linux == "dead") if here == "ENOSYS" and linux != "notify" else None
-    name = CALL_NAMES[number]
-    found = OF_CALLS[name](arguments, linux, here, step) if name in OF_CALLS else None
-    if name in ("openat", "mknodat") and (linux, here) == ("ENOTDIR", "EBADF") and step.is_other_node:
-        found = Known("dirfd-not-a-directory")
-    return found or of_path(linux, here, step, place)
-
-
-def of_mount(arguments: Tuple[int, ...], linux: str, here: str, step: Step) -> Optional[Known]:
-    of_data = step.error_of(3)
-    if linux == "EPERM" and here == of_data and step.errors == {of_data} and of_data in ("EFAULT", "EINVAL"):
-        return Known("mount-data")
-    causes = {"EPERM", *step.errors, step.walked.error}
-    return Known("native-mount") if linux in causes and here in causes else None
-
-
-def of_setxattr(arguments: Tuple[int, ...], linux: str, here: str, step: Step) -> Optional[Known]:
-    size, is_named = arguments[3], not step.error_of(1)
-    name = step.texts[1] if is_named else b""
-    causes = {*step.errors, step.walked.error} - {""} | ({"EINVAL"} if arguments[4] & 0xFFFFFFFC else set()) | ({"EFAULT"} if step.is_cut else set())
-    if here == "E2BIG" and 4096 < size <= attributes.MOST_OF_A_VALUE and linux in ("0", "ENOSPC"):
-        return Known("attribute-size", linux == "0")
-    if (linux, here) == ("0", "EPERM"):
-        return Known("attribute-without-rights", True) if name in attributes.WITHOUT_RIGHTS else None
-    causes |= {"EPERM"} if is_named and not name.startswith(b"user.") else set()
-    refused = is_named and (attributes.is_refused_for_its_name(name, linux) or attributes.is_refused_for_its_value(name, linux, size))
-    if here in causes and (linux in causes or refused):
-        return Known("attribute-size" if here == "E2BIG" and size <= attributes.MOST_OF_A_VALUE and linux not in step.errors else "setxattr-order")
-    return of_attribute(name, size, linux, here, "0", step) if is_named else None
-
-
-def of_attribute(name: bytes, size: int, linux: str, here: str, done: str, step: Step) -> Optional[Known]:
-    """Of an attribute that Linux refuses to set for its name or its value. `done` is the answer of one that was set."""
-    if here not in (done, "EEXIST", "ENODATA", *WALK):
-        return None
-    is_special = step.walked.kind not in ("reg", "dir")
-    if attributes.is_refused_for_its_name(name, linux) and (linux != "EPERM" or is_special) and (here not in WALK or linux == "ERANGE"):
-        return Known("attribute-names", here == done)
-    return Known("attribute-values", True) if here == done and attributes.is_refused_for_its_value(name, linux, size) else None
-
-
-def of_mknod(arguments: Tuple[int, ...], linux: str, here: str, step: Step) -> Optional[Known]:
-    """Of mknod, or of mknodat without its first argument."""
-    mode, device = arguments[1] & 0o170000, arguments[2] & 0xFFFFFFFF
-    if (linux, here, mode, device) == ("0", "EPERM", KINDS["chr"], 0):
-        return Known("whiteout-device", True)
-    is_node = mode == 0 or mode in (KINDS[kind] for kind in ("reg", "chr", "blk", "fifo", "sock"))
-    of_kind = "EPERM" if mode == KINDS["dir"] else "" if is_node else "EINVAL"
-    return Known("mknod-kind-first") if linux == of_kind and here == step.error_of(0) != "" else None
-
-
-def of_openat(arguments: Tuple[int, ...], linux: str, here: str, step: Step) -> Optional[Known]:
-    flags = arguments[2]
-    if linux == "EMFILE":
-        return Known("openat-full-table") if step.is_full and here in (*WALK, "EBADF") else None
-    fails, makes = here.isdigit() and flags & OPENING.get(linux, 0), here == "ENOENT" and linux.isdigit() and flags & O_CREAT
-    return Known("openat-only-walks", True) if fails or makes else None
-
-
-OF_CALLS = {
-    "mount": of_mount, "setxattr": of_setxattr, "openat": of_openat, "mknod": of_mknod,
-    "mknodat": lambda arguments, *rest: of_mknod(arguments[1:], *rest),
-}
+    at, seen = f"native {name_of_call(step)}" if what.startswith("native call") else what, Seen(linux, here, step, place)
+    rule = next((rule for rule in RULES if at.startswith(rule.at) and rule.is_cause(seen)), None)
+    return rule and Known(rule.name, seen.is_done if rule.apart is None else rule.apart)
 
 
 # ---- what filters say
 
-def of_verdict(linux, here, step, place):
-    if step.call[0] in OF_PROBES:
-        return Known("calls-no-filter-sees", True) if linux == OF_PROBES[step.call[0]] else None
-    return Known("instruction-pointer", True) if is_seen_otherwise(linux, step, place) else None
+def name_of_call(step: Step) -> str:
+    return CALL_NAMES.get(step.number, "probe" if step.number in OF_PROBES else "other")
 
 
-def is_seen_otherwise(linux, step, place):
+def is_of_probes(seen: Seen) -> bool:
+    return seen.linux == OF_PROBES.get(seen.step.number)
+
+
+def is_seen_otherwise(seen: Seen) -> bool:
     """Whether the filters say this of the call for the address of its instruction, and something else for the address 0."""
-    told, plain = (filters.verdict(step.filters, *step.call, address) for address in (place.instruction_pointer, 0))
+    step = seen.step
+    if step.call is None or step.number in OF_PROBES:
+        return False
+    told, plain = (filters.verdict(step.filters, step.number, step.arguments, address) for address in (seen.place.instruction_pointer, 0))
     if told == plain:
         return False
     answers = {"notify": "notify", "kill": "dead", "nosys": "ENOSYS", "errno": error_name(told[-1]) if told[-1] else "0"}
-    return linux == answers[told[0]] if told[0] in answers else linux != "notify"
+    return seen.linux == answers[told[0]] if told[0] in answers else seen.linux != "notify"
+
+
+# ---- walks and native calls
+
+def is_onto_mount(seen: Seen) -> bool:
+    return seen.step.walked.onto_mount and (seen.linux.isdigit() or seen.linux in (*WALK, "ok", "EEXIST", "EPERM", "EBUSY"))
+
+
+def is_data_alone(seen: Seen) -> bool:
+    """Whether the data of a mount is all that can't be read."""
+    of_data = seen.step.error_of(3)
+    return seen.pair == ("EPERM", of_data) and seen.step.errors == {of_data} and of_data in ("EFAULT", "EINVAL")
+
+
+def is_error_of_mount(seen: Seen) -> bool:
+    causes = {"EPERM", *seen.step.errors, seen.step.walked.error}
+    return seen.linux in causes and seen.here in causes
+
+
+def is_error_of_setxattr(seen: Seen) -> bool:
+    """Whether both answers are errors that this setxattr may have."""
+    linux, here, step, _ = seen
+    name, flags = step.attribute, step.arguments[4]
+    causes = {*step.errors, step.walked.error} - {""} | ({"EINVAL"} if flags & 0xFFFFFFFC else set()) | ({"EFAULT"} if step.is_cut else set())
+    causes |= {"EPERM"} if name is not None and not name.startswith(b"user.") else set()
+    refused = name is not None and (attributes.is_refused_for_its_name(name, linux) or attributes.is_refused_for_its_value(name, linux, step.size))
+    return here in causes and (linux in causes or refused)
+
+
+def is_size_of_attribute(seen: Seen) -> bool:
+    linux, here, step, _ = seen
+    if here != "E2BIG" or step.size > attributes.MOST_OF_A_VALUE:
+        return False
+    return step.size > 4096 and linux in ("0", "ENOSPC") or is_error_of_setxattr(seen) and linux not in step.errors
+
+
+def is_name_of_attribute(seen: Seen) -> bool:
+    """Whether Linux refuses the name of an attribute, which is set here, or is in the way."""
+    linux, here, step, _ = seen
+    if step.attribute is None or here not in ("0", "ok", "EEXIST", "ENODATA", *WALK) or here in WALK and linux != "ERANGE":
+        return False
+    is_special = step.walked.kind not in ("reg", "dir")
+    return attributes.is_refused_for_its_name(step.attribute, linux) and (linux != "EPERM" or is_special)
+
+
+def is_value_of_attribute(seen: Seen) -> bool:
+    linux, here, step, _ = seen
+    return step.attribute is not None and here in ("0", "ok") and attributes.is_refused_for_its_value(step.attribute, linux, step.size)
+
+
+def node_of(step: Step) -> Tuple[int, int]:
+    """The kind of node and the device that mknod or mknodat asks for."""
+    mode, device = step.arguments[1:3] if CALL_NAMES[step.number] == "mknod" else step.arguments[2:4]
+    return mode & 0o170000, device & 0xFFFFFFFF
+
+
+def is_kind_first(seen: Seen) -> bool:
+    """Whether Linux refuses the kind of a node, and here its path can't be read."""
+    step = seen.step
+    mode, _ = node_of(step)
+    is_node = mode == 0 or mode in (KINDS[kind] for kind in ("reg", "chr", "blk", "fifo", "sock"))
+    of_kind, of_path = "EPERM" if mode == KINDS["dir"] else "" if is_node else "EINVAL", step.error_of(0)
+    return seen.pair == (of_kind, of_path) and of_path != ""
+
+
+def is_for_its_flags(seen: Seen) -> object:
+    """Whether Linux opens otherwise for flags of openat."""
+    linux, here, flags = seen.linux, seen.here, seen.step.arguments[2]
+    return here.isdigit() and flags & OPENING.get(linux, 0) or here == "ENOENT" and linux.isdigit() and flags & O_CREAT
 
 
 # ---- workers
-
-def of_act(linux, here, step, place):
-    """Of an effect."""
-    return OF_EFFECTS[type(step.request).__name__](linux, here, step) or of_path(linux, here, step, place)
-
-
-def of_node(linux: str, here: str, step: Step) -> Optional[Known]:
-    return Known("mount-options", True) if (linux, here) == ("EROFS", "ok") and step.walked.read_only else None
-
-
-def of_set_attribute(linux, here, step):
-    return of_node(linux, here, step) or of_attribute(step.request.name, len(step.request.value), linux, here, "ok", step)
-
-
-def of_new_mount(linux, here, step):
-    has_type, flags = bool(step.request.fstype), mount_flags(step.request.flags)
-    answers = ("EINVAL", "nothing mounted") * bool(flags & (OTHER_ACTS | REFUSED_FLAGS)) + WALK * bool(flags & FROM_SOURCE)
-    if linux in answers and (here in ("ok", "ENOTDIR") or here == "EINVAL" and not has_type):
-        return Known("mount-flags", True)
-    is_without = here == "EINVAL" and not has_type and linux in (step.walked.error or "ENODEV", "ENODEV")
-    return Known("mount-without-type") if is_without else None
-
 
 def mount_flags(flags: int) -> int:
     """The flags as mount(2) takes them: those of the old magic number don't count."""
     return flags & ~OF_MAGIC if flags & OF_MAGIC == MAGIC else flags
 
 
-OF_EFFECTS = {"Mknod": of_node, "SetXattr": of_set_attribute, "Mount": of_new_mount}
+def is_other_mount(seen: Seen) -> bool:
+    linux, here, request = seen.linux, seen.here, seen.step.request
+    flags = mount_flags(request.flags)
+    answers = ("EINVAL", "nothing mounted") * bool(flags & (OTHER_ACTS | REFUSED_FLAGS)) + WALK * bool(flags & FROM_SOURCE)
+    return linux in answers and (here in ("ok", "ENOTDIR") or here == "EINVAL" and not request.fstype)
 
 
-def of_read(linux: str, here: str, step: Step, place: Place) -> Optional[Known]:
-    if linux == "end of file":
-        return Known("memory-after-end") if step.has_ended else None
-    if (linux, here, step.length) == ("-", "EFAULT", 0):
-        return Known("read-of-nothing")
-    return Known("sysinfo-part", True) if step.is_torn and not linux.startswith("E") else None
+def is_without_type(seen: Seen) -> bool:
+    return seen.here == "EINVAL" and not seen.step.request.fstype and seen.linux in (seen.step.walked.error or "ENODEV", "ENODEV")
 
 
-def of_write(linux: str, here: str, step: Step, place: Place) -> Optional[Known]:
-    if linux == "end of file":
-        return Known("memory-after-end") if step.has_ended else None
-    return Known("plant-part", True) if (linux, here) == (f"wrote {step.fitting}", "EFAULT") and 0 < step.fitting < SYSINFO else None
+def has_number(put: Put) -> bool:
+    return bool(put.asked.flags & SET_NUMBER)
 
 
-def of_receive(linux: str, here: str, step: Step, place: Place) -> Optional[Known]:
-    return Known("receive-without-tasks") if (linux, here) == ("ENOENT", "waits") and step.has_ended else None
+def is_limit(seen: Seen) -> bool:
+    put = seen.step.put
+    if has_number(put):
+        return seen.pair == ("EBADF", "EMFILE") and put.asked.newfd >= MOST_DESCRIPTORS
+    return seen.pair == ("EMFILE", "EBADF") and put.is_full
 
 
-def of_installation(linux, here, step, place):
-    put = step.put
-    if not put.asked.flags & SET_NUMBER:
-        if put.has_others and here.isdigit() and (linux.isdigit() or linux == "EMFILE"):
-            return Known("request-order", True)
-        return Known("descriptor-limit-errors") if (linux, here) == ("EMFILE", "EBADF") and put.is_full else None
-    return Known("descriptor-limit-errors") if (linux, here) == ("EBADF", "EMFILE") and put.asked.newfd >= MOST_DESCRIPTORS else None
+def is_order(seen: Seen) -> bool:
+    put = seen.step.put
+    return not has_number(put) and put.has_others and seen.here.isdigit() and (seen.linux.isdigit() or seen.linux == "EMFILE")
 
 
-def of_take(linux, here, step, place):
-    put = step.put
-    if here != "ENOENT":
-        return of_installation(linux, here, step, place)
-    # the installation is tried there, and may fail
-    is_tried = linux.isdigit() or (linux, put.is_full) == ("EMFILE", True) or (linux, put.is_beyond) == ("EBADF", True)
-    if is_tried and put.lost_by:
-        return Known("descriptor-before-signal" if put.lost_by == "signal" else "answer-behind-a-request", True)
-    return Known("request-of-a-gone-call") if put.lost_by == "answer" and linux == "ESRCH" else None
-
-
-def of_answer(linux: str, here: str, step: Step, place: Place) -> Optional[Known]:
-    """Of an answer, or a request for a descriptor, to a call that isn't there any more."""
-    return Known("return-behind-an-installation") if (linux, here) == ("ENOENT", "EINPROGRESS") and step.is_installed else None
+def is_tried(seen: Seen, lost_by: str) -> bool:
+    """Whether a request for a descriptor that was lost here by this is tried there, where it may fail."""
+    linux, put = seen.linux, seen.step.put
+    is_told = linux.isdigit() or (linux, put.is_full) == ("EMFILE", True) or (linux, put.is_beyond) == ("EBADF", True)
+    return seen.here == "ENOENT" and is_told and put.lost_by == lost_by
 
 
 # ---- signals, tasks and their numbers
 
-def of_delivery(linux: str, here: str, step: Step, place: Place) -> Optional[Known]:
-    """Of a signal that has to be delivered: it ends the task here, or its handler runs."""
-    if here != "dead":
-        return Known("fatal-signal-at-once", True) if linux == "dead" and step.fatal and not step.is_queued else None
-    if place.is_init and linux in ("notify", "idle") and not step.pending - step.fatal:
-        return Known("init-is-killed-by-its-child", True)
-    if step.is_held and linux == "notify" and step.pending - step.fatal and 9 not in step.pending:
-        return Known("second-fatal-signal", True)
-    return Known("descriptor-before-signal", True) if step.is_queued and linux.startswith("handler") else None
+def is_held_for_another(seen: Seen) -> object:
+    step = seen.step
+    return seen.pair == ("notify", "dead") and step.is_held and step.caught and 9 not in step.pending
 
 
-def of_effect_of_signal(linux: str, here: str, step: Step, place: Place) -> Optional[Known]:
-    return Known("descriptor-before-signal", True) if step.is_queued and here in ("eintr", "restart") and linux == "run" else None
-
-
-def of_resume(linux: str, here: str, step: Step, place: Place) -> Optional[Known]:
-    caught = step.pending - step.fatal
-    return Known("restart-errors", True) if here in RESTARTS and linux in ("EINTR", "restarts") and caught else None
-
-
-def of_spawn(linux: str, here: str, step: Step, place: Place) -> Optional[Known]:
-    """Of the numbers of processes where those of the script have run out: they are given again, or none is left."""
-    given = linux.removeprefix("pid=")
-    runs_out = here == "EAGAIN" or here.startswith("pid=") and int(here.removeprefix("pid=")) <= step.last_pid
-    return Known("process-numbers", True) if place.as_init and runs_out and given.isdigit() and int(given) > step.last_pid else None
-
-
-def of_kill(linux: str, here: str, step: Step, place: Place) -> Optional[Known]:
-    """Of a signal to a number that kill(2) takes for more than one process: 0, and those that are negative in 32 bits."""
-    if (linux, here) != ("ok", "ESRCH"):
-        return None
-    return Known("kill-of-a-group", True) if is_group(step.whom) else Known("init-reaps-orphans", True) if place.is_orphan else None
+def runs_out(seen: Seen) -> bool:
+    """Whether the numbers of the script have run out: they are given again, or none is left."""
+    linux, here, last = seen.linux.removeprefix("pid="), seen.here, seen.step.last_pid
+    has_run_out = here == "EAGAIN" or here.startswith("pid=") and int(here.removeprefix("pid=")) <= last
+    return seen.place.as_init and has_run_out and linux.isdigit() and int(linux) > last
 
 
 def is_group(pid: int) -> bool:
+    """Whether kill(2) takes a number for more than one process: 0, and those that are negative in 32 bits."""
     return pid == 0 or pid >= 2**31
 
 
-def of_wait(linux: str, here: str, step: Step, place: Place) -> Optional[Known]:
-    return Known("init-reaps-orphans", True) if place.is_orphan and linux.isdigit() else None
-
-
-def of_end_of_init(linux: str, here: str, step: Step, place: Place) -> Optional[Known]:
-    return Known("init-ends", True) if place.is_init and (linux, here) == ("ended", "alive") else None
-
-
-def of_map(linux: str, here: str, step: Step, place: Place) -> Optional[Known]:
-    return Known("last-page", True) if (linux, here) == ("ENOMEM", f"mapped up to {END_OF_ADDRESSES}") else None
-
-
-RULES = {
-    "verdict": of_verdict, "native call": of_native, "effect of the signal": of_effect_of_signal, "effect of": of_act, "read": of_read, "write": of_write,
-    "receive": of_receive, "install": of_installation, "take of a descriptor": of_take, "send": of_answer, "request for a descriptor": of_answer, "deliver": of_delivery, "resume": of_resume, "spawn": of_spawn,
-    "kill": of_kill, "wait": of_wait, "skip of a wait": of_wait, "the other tasks": of_end_of_init, "map": of_map,
-}
+EFFECTS = ("effect of mknod", "effect of mount", "effect of setxattr")
+SET_ATTRIBUTE = ("native setxattr", "effect of setxattr")
+INSTALLED = ("install", "take of a descriptor")
+# The first one that fits counts.
+RULES = (
+    Rule(("verdict", "native"), "calls-no-filter-sees", True, is_of_probes),
+    Rule(("verdict", "native"), "instruction-pointer", True, is_seen_otherwise),
+    Rule(("native",), "sysinfo-part", True, lambda it: it.step.is_torn and it.linux not in ("notify", "dead")),
+    Rule(("native other",), "other-calls", True, lambda it: it.pair == ("dead", "ENOSYS")),
+    Rule(("native other",), "other-calls", False, lambda it: it.here == "ENOSYS" and it.linux != "notify"),
+    Rule(("native openat", "native mknodat"), "dirfd-not-a-directory", False, lambda it: it.pair == ("ENOTDIR", "EBADF") and it.step.is_other_node),
+    Rule(("native mount",), "mount-data", False, is_data_alone),
+    Rule(("native mount",), "native-mount", False, is_error_of_mount),
+    Rule(("native setxattr",), "attribute-size", None, is_size_of_attribute),
+    Rule(("native setxattr",), "attribute-without-rights", True, lambda it: it.pair == ("0", "EPERM") and it.step.attribute in attributes.WITHOUT_RIGHTS),
+    Rule(("native setxattr",), "setxattr-order", False, is_error_of_setxattr),
+    Rule(("native mknod",), "whiteout-device", True, lambda it: it.pair == ("0", "EPERM") and node_of(it.step) == (KINDS["chr"], 0)),
+    Rule(("native mknod",), "mknod-kind-first", False, is_kind_first),
+    Rule(("native openat",), "openat-full-table", False, lambda it: it.linux == "EMFILE" and it.step.is_full and it.here in (*WALK, "EBADF")),
+    Rule(("native openat",), "openat-only-walks", True, is_for_its_flags),
+    Rule(("effect of mknod", "effect of setxattr"), "mount-options", True, lambda it: it.pair == ("EROFS", "ok") and it.step.walked.read_only),
+    Rule(SET_ATTRIBUTE, "attribute-names", None, is_name_of_attribute),
+    Rule(SET_ATTRIBUTE, "attribute-values", True, is_value_of_attribute),
+    Rule(("effect of mount",), "mount-flags", True, is_other_mount),
+    Rule(("effect of mount",), "mount-without-type", False, is_without_type),
+    Rule(("native", *EFFECTS), "dot-dot-under-mount", True, is_onto_mount),
+    Rule(("native", *EFFECTS), "trailing-slash", None, lambda it: it.step.walked.slash and it.linux in ("ENOENT", "ENOTDIR")),
+    Rule(("read", "write"), "memory-after-end", False, lambda it: it.linux == "end of file" and it.step.has_ended),
+    Rule(("read",), "read-of-nothing", False, lambda it: it.pair == ("-", "EFAULT") and it.step.length == 0),
+    Rule(("read",), "sysinfo-part", True, lambda it: it.step.is_torn and not it.linux.startswith(("E", "end"))),
+    Rule(("write",), "plant-part", True, lambda it: it.pair == (f"wrote {it.step.fitting}", "EFAULT") and 0 < it.step.fitting < SYSINFO_SIZE),
+    Rule(("receive",), "receive-without-tasks", False, lambda it: it.pair == ("ENOENT", "waits") and it.step.has_ended),
+    Rule(INSTALLED, "request-order", True, is_order),
+    Rule(INSTALLED, "descriptor-limit-errors", False, is_limit),
+    Rule(("take of a descriptor",), "descriptor-before-signal", True, lambda it: is_tried(it, "signal")),
+    Rule(("take of a descriptor",), "answer-behind-a-request", True, lambda it: is_tried(it, "answer")),
+    Rule(("take of a descriptor",), "request-of-a-gone-call", False, lambda it: it.pair == ("ESRCH", "ENOENT") and it.step.put.lost_by == "answer"),
+    Rule(("send", "request for a descriptor"), "return-behind-an-installation", False,
+         lambda it: it.pair == ("ENOENT", "EINPROGRESS") and it.step.is_installed),
+    Rule(("deliver",), "fatal-signal-at-once", True, lambda it: it.linux == "dead" != it.here and it.step.fatal and not it.step.is_queued),
+    Rule(("deliver",), "init-is-killed-by-its-child", True,
+         lambda it: it.here == "dead" and it.place.is_init and it.linux in ("notify", "idle") and not it.step.caught),
+    Rule(("deliver",), "second-fatal-signal", True, is_held_for_another),
+    Rule(("deliver",), "descriptor-before-signal", True, lambda it: it.here == "dead" and it.step.is_queued and it.linux.startswith("handler")),
+    Rule(("effect of the signal",), "descriptor-before-signal", True,
+         lambda it: it.step.is_queued and it.here in ("eintr", "restart") and it.linux == "run"),
+    Rule(("resume",), "restart-errors", True, lambda it: it.here in RESTARTS and it.linux in ("EINTR", "restarts") and it.step.caught),
+    Rule(("spawn",), "process-numbers", True, runs_out),
+    Rule(("kill",), "kill-of-a-group", True, lambda it: it.pair == ("ok", "ESRCH") and is_group(it.step.whom)),
+    Rule(("kill",), "init-reaps-orphans", True, lambda it: it.pair == ("ok", "ESRCH") and it.place.is_orphan and not is_group(it.step.whom)),
+    Rule(("wait", "skip of a wait"), "init-reaps-orphans", True, lambda it: it.place.is_orphan and it.linux.isdigit()),
+    Rule(("the other tasks",), "init-ends", True, lambda it: it.place.is_init and it.pair == ("ended", "alive")),
+    Rule(("map",), "last-page", True, lambda it: it.pair == ("ENOMEM", f"mapped up to {END_OF_ADDRESSES}")),
+)

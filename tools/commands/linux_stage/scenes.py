@@ -14,7 +14,7 @@ from tools.references.stepping.facts import CALL_NAMES, Addfd, Fail, error_text
 from tools.references.stepping.kernel import SYSINFO_SIZE, Kernel
 from tools.references.stepping.plays import played
 from tools.references.stepping.reports import line_of
-from tools.references.stepping.rules import Mknod, Mount, base_of, plan
+from tools.references.stepping.rules import Mknod, Mount, SetXattr, base_of, plan
 from tools.references.stepping.sessions import Session
 from tools.references.stepping.trees import MOST_LINKS, Tree, Walk, parts_of
 
@@ -31,7 +31,7 @@ class Walked:
     """The walk of a path: the node's kind and the error are empty where there is none."""
 
     slash: bool = False  # the path, or the text of the link at its end, ends with a slash
-    onto_mount: bool = False  # a `..` led onto a directory on which something is mounted
+    onto_mount: bool = False  # a `..` led onto a directory on which something is mounted, or a part of it was made or opened so
     read_only: bool = False  # it ends in a file system that is mounted read-only
     kind: str = ""
     error: str = ""
@@ -55,11 +55,11 @@ class Step:
     line: str = ""
     call: Optional[tuple] = None  # number and arguments
     filters: list = field(default_factory=list)  # those that see it
-    request: object = None  # of an effect
+    request: Any = None  # of an effect
     texts: list = field(default_factory=list)  # of a native call: bytes, or the error
     is_cut: bool = False  # of setxattr: memory ends within the value
     walked: Walked = field(default_factory=Walked)
-    put: Optional[Put] = None
+    put: Any = None  # a Put, or None
     is_full: bool = False  # the task has no free number for a descriptor
     is_other_node: bool = False  # the directory descriptor is open, and no directory
     is_torn: bool = False  # it looks at bytes that only Linux has written
@@ -74,6 +74,32 @@ class Step:
     is_queued: bool = False  # a request for a descriptor waits for the task
     last_pid: int = 0  # the one that was given last
     whom: int = 0  # the PID to which a signal is sent
+
+    @property
+    def number(self) -> int:
+        """The number of the call, or -1."""
+        return self.call[0] if self.call else -1
+
+    @property
+    def arguments(self) -> Tuple[int, ...]:
+        return self.call[1] if self.call else ()
+
+    @property
+    def attribute(self) -> Optional[bytes]:
+        """The name of the attribute that is set; None if it can't be read."""
+        if isinstance(self.request, SetXattr):
+            return self.request.name
+        return None if self.error_of(1) else self.texts[1]
+
+    @property
+    def size(self) -> int:
+        """The size of the attribute's value."""
+        return len(self.request.value) if isinstance(self.request, SetXattr) else self.arguments[3]
+
+    @property
+    def caught(self) -> frozenset:
+        """The pending signals that have a handler."""
+        return self.pending - self.fatal
 
     def error_of(self, place: int) -> str:
         """The error of a text, or nothing."""
@@ -91,16 +117,33 @@ def slash_at_the_end(path: bytes) -> bool:
 
 
 class WatchedTree(Tree):
-    """A tree that notes how a path is walked."""
+    """A tree that notes how a path is walked.
+
+    `made_below` are the names of nodes that were made behind a `..` onto a directory on which something is mounted: in that directory here, and in the mount on
+    Linux. `opened_below` are such directories that were opened.
+    """
 
     def __init__(self, container):
         super().__init__(container)
-        self.walked, self.read_only = Walked(), set()
+        self.walked, self.read_only, self.made_below, self.opened_below = Walked(), set(), set(), set()
 
     def up(self, node: int) -> int:
         found = super().up(node)
         self.walked.onto_mount |= found in self.mounted
         return found
+
+    def walk(self, path, base, creates):
+        self.walked.onto_mount |= base in self.opened_below and not path.startswith(b"/")
+        return super().walk(path, base, creates)
+
+    def test_component(self, at, part):
+        self.walked.onto_mount |= (at, part) in self.made_below
+        super().test_component(at, part)
+
+    def add(self, directory, name, *rest):
+        if self.walked.onto_mount:
+            self.made_below |= {(directory, name), (self.top(directory), name)}
+        super().add(directory, name, *rest)
 
     def looked_at(self, path, base, creates):
         """How a walk goes, which changes nothing."""
@@ -190,6 +233,12 @@ class WatchedKernel(Kernel):
         if name in PATHS:
             self.look_at_path(task, name, base_of(number, args), step.texts[PATHS[name]])
         return super().native(task, number, args)
+
+    def open_natively(self, group, request, base):
+        answer = super().open_natively(group, request, base)
+        if self.tree.walked.onto_mount and not isinstance(answer, Fail):
+            self.tree.opened_below.add(group.slots[answer][1])
+        return answer
 
     def look_at_path(self, task, name, dirfd, path):
         base = self.directory(task.group, dirfd)
