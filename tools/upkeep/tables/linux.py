@@ -4,11 +4,11 @@ from __future__ import annotations
 from pathlib import Path
 from typing import Any, Callable, Dict, List
 
-from tools.commands.linux_stage import differences
 from tools.commands.command_line.top import TOP
+from tools.commands.linux_stage import differences, known
 
 SHORT = "| difference | for a test | case |\n|---|---|---|\n"
-LONG = "| difference | Linux | here | why | for a test | seen in |\n|---|---|---|---|---|---|\n"
+LONG = "| difference | Linux | here | why | seen in |\n|---|---|---|---|---|\n"
 KEYS = {"name", "misleads", "what", "linux", "here", "why", "test", "seen", "stored", "shown", "case"}
 
 
@@ -29,7 +29,7 @@ def short(row: Dict[str, Any]) -> List[str]:
 
 
 def long(row: Dict[str, Any]) -> List[str]:
-    return [f"**{row['name']}** {row['what']}", row["linux"], row["here"], row["why"], row["test"], seen_in(row, "../../")]
+    return [f"**{row['name']}**", row["linux"], row["here"], row["why"], seen_in(row, "../../")]
 
 
 def tables(head: str, columns: Callable[[Dict[str, Any]], List[str]]) -> str:
@@ -55,5 +55,6 @@ def faults() -> List[str]:
     found = [f"{row.get('name')}: its keys aren't {', '.join(sorted(KEYS))}" for row in rows if set(row) != KEYS]
     found += [f"{row['name']}: no kind {row['misleads']}" for row in rows if row.get("misleads") not in differences.KINDS]
     found += [f"{row['name']}: {row['case']} isn't there" for row in rows if row.get("case") and not (TOP / row["case"]).is_dir()]
+    found += [f"{name}: on-linux gives this name, and it has no row" for name in sorted({rule.name for rule in known.RULES} - differences.names())]
     found += ["two rows have one name"] if len({row.get("name") for row in rows}) != len(rows) else []
     return found
