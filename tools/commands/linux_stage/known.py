@@ -137,7 +137,7 @@ def is_size_of_attribute(seen: Seen) -> bool:
 def is_name_of_attribute(seen: Seen) -> bool:
     """Whether Linux refuses the name of an attribute, which is set here, or is in the way."""
     linux, here, step, _ = seen
-    if step.attribute is None or here not in ("0", "ok", "EEXIST", "ENODATA", *WALK) or here in WALK and linux != "ERANGE":
+    if step.attribute is None or here not in (step.done, "EEXIST", "ENODATA", *WALK) or here in WALK and linux != "ERANGE":
         return False
     is_special = step.walked.kind not in ("reg", "dir")
     return attributes.is_refused_for_its_name(step.attribute, linux) and (linux != "EPERM" or is_special)
@@ -145,7 +145,7 @@ def is_name_of_attribute(seen: Seen) -> bool:
 
 def is_value_of_attribute(seen: Seen) -> bool:
     linux, here, step, _ = seen
-    return step.attribute is not None and here in ("0", "ok") and attributes.is_refused_for_its_value(step.attribute, linux, step.size)
+    return step.attribute is not None and here == step.done and attributes.is_refused_for_its_value(step.attribute, linux, step.size)
 
 
 def node_of(step: Step) -> Tuple[int, int]:

@@ -92,6 +92,11 @@ class Step:
         return None if self.error_of(1) else self.texts[1]
 
     @property
+    def done(self) -> str:
+        """The answer of an attribute that was set."""
+        return "0" if self.request is None else "ok"
+
+    @property
     def size(self) -> int:
         """The size of the attribute's value."""
         return len(self.request.value) if isinstance(self.request, SetXattr) else self.arguments[3]
