@@ -1,16 +1,19 @@
 """Acts that are done in a process of their own, and in namespaces of their own."""
+from __future__ import annotations
+
 import json
 import os
 import select
 import time
 import traceback
+from typing import Any, Callable, Optional
 
 from tools.commands.linux_stage import machine
 
 NAMESPACES = machine.NEW_MOUNTS | machine.NEW_PIDS | machine.NEW_NAMES | machine.NEW_IPC | machine.NEW_NETWORK
 
 
-def in_process(act, seconds=None):
+def in_process(act: Callable[[], Any], seconds: Optional[float] = None) -> Any:
     """What an act gives that is done in a process of its own, or None where it fails. All that it starts ends with it.
 
     Raises TimeoutError where it takes longer.
@@ -32,7 +35,7 @@ def in_process(act, seconds=None):
     return json.loads(told) if told else None
 
 
-def do_and_tell(act, writing):
+def do_and_tell(act: Callable[[], Any], writing: int) -> None:
     try:
         machine.end_with_parent()
         with os.fdopen(writing, "w") as out:
@@ -43,7 +46,7 @@ def do_and_tell(act, writing):
         os._exit(0)
 
 
-def read_all(descriptor, seconds):
+def read_all(descriptor: int, seconds: Optional[float]) -> bytes:
     """What is written to a pipe until it is closed."""
     found, end = b"", None if seconds is None else time.monotonic() + seconds
     while True:
@@ -56,9 +59,9 @@ def read_all(descriptor, seconds):
         found += piece
 
 
-def in_namespaces(act, seconds=None, namespaces=NAMESPACES):
+def in_namespaces(act: Callable[[], Any], seconds: Optional[float] = None, namespaces: int = NAMESPACES) -> Any:
     """What an act gives that is done by the first process of namespaces of its own."""
-    def as_first():
+    def as_first() -> Any:
         machine.unshare(namespaces)
         return in_process(act)
 

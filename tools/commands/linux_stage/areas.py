@@ -1,5 +1,8 @@
 """The areas that scripts are drawn from, and the differences that scripts of an area may not show."""
+from __future__ import annotations
+
 from tools.commands.linux_stage import comparison, drawn_files, drawn_orders, drawn_scripts, journal
+from tools.commands.linux_stage.comparison import Bench
 from tools.commands.linux_stage.folders import Pair
 from tools.references.stepping import drawn, policies, scripts
 from tools.references.stepping.sessions import Session
@@ -26,7 +29,7 @@ NAMES = (*AREAS, REQUESTS)
 EXCLUDED = dict.fromkeys(("plain-mounts", "plain-paths"), ("trailing-slash", "dot-dot-under-mount"))
 
 
-def pair(bench, area, seed, number):
+def pair(bench: Bench, area: str, seed: int, number: int) -> Pair:
     """A drawn policy and script, without most of the steps that change nothing."""
     if area == REQUESTS:
         return with_requests(seed, number)
@@ -38,7 +41,7 @@ def pair(bench, area, seed, number):
     return Pair(f"{area} {number}", policy, script)
 
 
-def with_requests(seed, number):
+def with_requests(seed: int, number: int) -> Pair:
     """A drawn policy, and the script of a session that was drawn over a script."""
     draft, _ = drawn_scripts.drawn(AREAS, BASES[number % len(BASES)], seed, number // len(BASES))
     session = Session(policies.read_policy(draft.policy()), scripts.read_script(draft.script()))

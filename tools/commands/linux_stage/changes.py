@@ -1,14 +1,19 @@
 """Tries the comparison itself: a line of a journal is changed, and the machine has to be found to differ from it."""
+from __future__ import annotations
+
 import re
 from collections import Counter
+from typing import Any, Iterator, List, Optional, Tuple
 
 from tools.commands.linux_stage import areas, comparison
+from tools.commands.linux_stage.comparison import Bench
+from tools.commands.linux_stage.folders import Pair
 
 SEED, SCRIPTS, TRIES = 3000, 40, 3
 AREAS = ("signals", "cuts", "races", "filters", "descriptors", "memory", "paths", "requests")
 
 
-def one_more(match):
+def one_more(match: re.Match[str]) -> str:
     """The number at the end of the match, and one."""
     return match.group(1) + str(int(match.group(2)) + 1)
 
@@ -34,7 +39,7 @@ CHANGES = [(re.compile(form), into) for form, into in [
 ]]
 
 
-def agreed(bench):
+def agreed(bench: Bench) -> Iterator[Tuple[Pair, List[str]]]:
     """Drawn scripts on which the machine agrees, with their journals."""
     for number in range(SCRIPTS):
         for area in AREAS:
@@ -45,7 +50,7 @@ def agreed(bench):
                 yield pair, result.journal
 
 
-def changed(lines, form, into):
+def changed(lines: List[str], form: re.Pattern[str], into: Any) -> Optional[List[str]]:
     """The lines with the first one changed that can be, and its place."""
     places = [at for at, line in enumerate(lines) if at and form.search(line)]
     if not places:
@@ -53,9 +58,10 @@ def changed(lines, form, into):
     return [*lines[:places[0]], form.sub(into, lines[places[0]]), *lines[places[0] + 1:]]
 
 
-def run(bench):
+def run(bench: Bench) -> int:
     """Prints what was missed, and gives the exit status."""
-    tried, noticed = Counter(), 0
+    tried: Counter[int] = Counter()
+    noticed = 0
     for pair, lines in agreed(bench):
         for at, (form, into) in enumerate(CHANGES):
             if tried[at] == TRIES or not changed(lines, form, into):

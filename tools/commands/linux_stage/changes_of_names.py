@@ -3,10 +3,12 @@
 `wrong_answers.json` has for each name a script, one of its steps, and the two answers that differ. These have to get the name. They mustn't, if Linux's
 answer is the wrong one, if the journal's line is changed, or in the script without the cause. Some names only probes show.
 """
+from __future__ import annotations
+
 import json
 import sys
 from pathlib import Path
-from typing import Iterator
+from typing import Iterator, Optional
 
 from tools.commands.linux_stage import differences, known, probes, scenes
 from tools.commands.linux_stage.folders import TOP
@@ -16,14 +18,14 @@ FILE = Path(__file__).resolve().parent / "wrong_answers.json"
 ADDRESS = 0x60001033  # any that isn't 0
 
 
-def step_of(policy: bytes, script: bytes, event: str):
+def step_of(policy: bytes, script: bytes, event: str) -> Optional[scenes.Step]:
     """The step of that kind, the N-th of them if a number stands behind it; None if there are fewer."""
     kind, _, count = event.partition(" ")
     found = [step for step in scenes.steps(policy, script) if step.line.split(" ")[2] == kind]
     return found[int(count or 1) - 1] if len(found) >= int(count or 1) else None
 
 
-def name_of(row: dict, step: scenes.Step, linux: str, line: str) -> "str | None":
+def name_of(row: dict, step: scenes.Step, linux: str, line: str) -> 'str | None':
     """The name that the row's difference gets at a step, of these answers."""
     place = Place(ADDRESS, as_init=True, is_init=row["name"].startswith("init-"), is_orphan=row["name"] == "init-reaps-orphans")
     found = known.find(line, row["what"], linux, row["here"], step, place)
@@ -35,6 +37,9 @@ def faults_of(row: dict) -> Iterator[str]:
     folder = TOP / row["case"]
     policy, script = (folder / "policy.json").read_bytes(), (folder / "script.txt").read_bytes()
     step = step_of(policy, script, row["event"])
+    if step is None:
+        yield f"there is no {row['event']}"
+        return
     if name_of(row, step, row["linux"], step.line) != row["name"]:
         yield f"Linux {row['linux']} and here {row['here']} don't get the name"
     if name_of(row, step, row["wrong"], step.line):

@@ -5,13 +5,14 @@ import subprocess
 import time
 import traceback
 from dataclasses import dataclass, field
-from typing import List, NamedTuple
+from typing import Any, Callable, Dict, List, NamedTuple, Optional, Tuple
 
 from tools.commands.linux_stage import apart, journal, machine, scenes, script_text
+from tools.commands.linux_stage.journal import Event
 from tools.commands.linux_stage.machine import Stop
 from tools.commands.linux_stage.play import Difference, Play
 from tools.commands.linux_stage.stage import Stage
-from tools.references.stepping.scripts import read_script
+from tools.references.stepping.scripts import Container, read_script
 
 # A process with priority may not have its processor for a whole second: then those without run, which are to stand still.
 SECONDS_WITH_PRIORITY = 0.8
@@ -38,12 +39,12 @@ class Result:
     journal: list = field(default_factory=list)
 
     @property
-    def names(self):
+    def names(self) -> List[str]:
         """The known differences that it shows."""
         return sorted({difference.name for difference in self.differences if difference.name})
 
 
-def played(bench, policy, script):
+def played(bench: Bench, policy: bytes, script: bytes) -> Tuple[int, bytes, str]:
     """The status of the program on a policy and a script, its output, and its line."""
     files = [f"{bench.room}/policy.json", f"{bench.room}/script.txt"]
     for name, content in zip(files, (policy, script)):
@@ -68,7 +69,7 @@ def ways(script: bytes) -> List[Way]:
     return [Way("", script, True), Way(f" with {script_text.HIGH_PIDS.decode()}", script_text.with_high_pids(script), False)]
 
 
-def compare(bench, policy, script, change=None, as_init=False):
+def compare(bench: Bench, policy: bytes, script: bytes, change: Optional[Callable[[List[str]], Any]] = None, as_init: bool = False) -> Result:
     """Compares a script step by step. `change` may change the lines of the journal, to try whether that is found. `as_init` says that its
     first task is PID 1 of a namespace; else its PIDs have to be such as both kernels can give."""
     status, report, line = played(bench, policy, script)
@@ -86,7 +87,7 @@ def compare(bench, policy, script, change=None, as_init=False):
     return Result(differences=differences, journal=lines, **told)
 
 
-def compare_there(bench, container, events, steps, as_init):
+def compare_there(bench: Bench, container: Container, events: List[Event], steps: List[scenes.Step], as_init: bool) -> Dict[str, Any]:
     """Compares in namespaces of its own."""
     try:
         told = apart.in_namespaces(lambda: compare_here(bench, container, events, steps, as_init), LIMIT_SECONDS)
@@ -95,7 +96,7 @@ def compare_there(bench, container, events, steps, as_init):
     return told or dict(differences=[], compared=0, stopped="the process that compares ended")
 
 
-def compare_here(bench, container, events, steps, as_init):
+def compare_here(bench: Bench, container: Container, events: List[Event], steps: List[scenes.Step], as_init: bool) -> Dict[str, Any]:
     stage = Stage(container, bench.stand_in, bench.room, bench.processor, as_init)
     play, stopped = Play(stage, events, steps), ""
     try:

@@ -1,4 +1,9 @@
 """Drawn scripts about paths, mounts, memory, descriptors and arguments."""
+from __future__ import annotations
+
+import random
+from typing import Callable, List, Optional, Tuple
+
 from tools.commands.linux_stage.drawn_scripts import Draft, poke, rule, served
 from tools.commands.real_workloads.script_text import quoted
 
@@ -21,13 +26,13 @@ class Tree:
         for _ in range(chance.randrange(2, 14)):
             self.grow()
 
-    def state(self, kind, path, *operands):
+    def state(self, kind: str, path: bytes, *operands: str) -> None:
         self.lines.append(" ".join([kind, quoted(path), *operands]))
         self.taken.add(path)
         if kind == "dir":
             self.directories.append(path)
 
-    def grow(self):
+    def grow(self) -> None:
         inside = [path for path in self.directories if path.startswith(self.root)]
         parent = self.chance.choice([*inside, self.chance.choice(self.directories)])
         path = parent.rstrip(b"/") + b"/" + self.chance.choice(NAMES)
@@ -39,11 +44,11 @@ class Tree:
         if path.startswith(self.root):
             self.nodes.append(path[len(self.root.rstrip(b"/")):] or b"/")
 
-    def settings(self):
+    def settings(self) -> List[str]:
         return self.lines + ([f"root {quoted(self.root)}"] if self.root != b"/" else [])
 
 
-def component(chance):
+def component(chance: random.Random) -> bytes:
     kind = chance.random()
     if kind < 0.75:
         return chance.choice(NAMES)
@@ -52,7 +57,7 @@ def component(chance):
     return b"x" * chance.choice([254, 255, 256]) if kind < 0.96 else b"n%d" % chance.randrange(3)
 
 
-def drawn_path(chance, nodes, most=6, slashes=0.03):
+def drawn_path(chance: random.Random, nodes: List[bytes], most: int = 6, slashes: float = 0.03) -> bytes:
     """A path: often one that begins with a node of the tree, and sometimes with a slash at its end."""
     path = b"/" if chance.random() < 0.6 else b""
     end = b"/" if chance.random() < slashes else b""
@@ -66,7 +71,7 @@ def drawn_path(chance, nodes, most=6, slashes=0.03):
     return path + chance.choice([b"/", b"/", b"/", b"//"]).join(parts) + end
 
 
-def path_call(chance):
+def path_call(chance: random.Random) -> List[str]:
     """The lines of a call on the path at 0x10000."""
     descriptor = chance.choice(["-100", "3", "3", "4", "0", "77", "-1"])
     kind = chance.random()
@@ -83,11 +88,11 @@ def path_call(chance):
     return [poke(0x12000, name), poke(0x13000, b"v"), f"call setxattr 0x10000 0x12000 0x13000 {chance.choice([0, 1])} {flags}"]
 
 
-def path_rules(chance):
+def path_rules(chance: random.Random) -> List[dict]:
     return [rule(f"g{at}", call, "grant") for at, call in enumerate(ACTS) if chance.random() < 0.85]
 
 
-def paths(chance, _):
+def paths(chance: random.Random, _: int) -> Draft:
     """Walks: links, `..`, kinds of nodes, effects and native calls."""
     slashes = chance.choice([0, 0, 0, 0, 0.3])
     tree = Tree(chance)
@@ -97,14 +102,14 @@ def paths(chance, _):
     return Draft([*tree.settings(), "notify " + " ".join(notified)], [("main", body)], served(calls * 2), path_rules(chance))
 
 
-def plain_paths(chance, number):
+def plain_paths(chance: random.Random, number: int) -> Draft:
     """As paths, without mounts and without slashes at the ends of paths."""
     draft = paths(chance, number)
     bodies = [(name, [plain(line) for line in body]) for name, body in draft.programs]
     return Draft([plain(line) for line in draft.settings], bodies, draft.schedule, draft.rules)
 
 
-def plain(line):
+def plain(line: str) -> str:
     if line.startswith("call mount"):
         return "call mknod 0x10000 0o010666 0"
     if line.startswith("link"):
@@ -116,7 +121,7 @@ def plain(line):
     return line
 
 
-def among(chance, most, mounted, opened, relative):
+def among(chance: random.Random, most: int, mounted: List[bytes], opened: List[bytes], relative: List[bytes]) -> List[str]:
     """Mounts, directories that are opened, and calls relative to these."""
     body, descriptors = [], 3
     for _ in range(chance.randrange(4, most)):
@@ -138,7 +143,7 @@ def among(chance, most, mounted, opened, relative):
 GRANT_ALL = [rule("g", ["mknod", "mknodat", "mount"], "grant")]
 
 
-def mounts(chance, _):
+def mounts(chance: random.Random, _: int) -> Draft:
     """Mounts anywhere, bases below them, and `..`."""
     settings = ['dir "/a"', 'dir "/a/b"', 'dir "/a/b/c"', 'dir "/d"', 'dir "/d/e"', 'link "/l" "a/b"', "notify mknod mknodat mount"]
     anywhere = [b"/a", b"/a/b", b"/a/b/c", b"/d", b"/d/e", b"/l", b"/", b"/a/..", b"/a/b/..", b"/a/b/../..", b"/a/.", b"/l/..", b"/d/../a"]
@@ -146,7 +151,7 @@ def mounts(chance, _):
     return Draft(settings, [("main", among(chance, 10, anywhere, anywhere, relative))], served(20), GRANT_ALL)
 
 
-def plain_mounts(chance, _):
+def plain_mounts(chance: random.Random, _: int) -> Draft:
     """Mounts on directories to which no `..` leads back."""
     settings = ['dir "/a"', 'dir "/a/b"', 'dir "/a/m"', 'dir "/d"', 'dir "/d/m"', 'dir "/m"', 'link "/l" "a/m"', 'link "/a/k" "../d/m"',
                 "notify mknod mknodat mount"]
@@ -158,12 +163,12 @@ def plain_mounts(chance, _):
 
 # ---- memory
 
-MAPS = [[], [], [(0x20000, 1), (0x22000, 2)], [(0x10000, 3)], [(0x7FFFF0000000, 2), (0x10000, 1)], [(0x40000, 1), (0x41000, 1)]]
+MAPS: List[List[Tuple[int, int]]] = [[], [], [(0x20000, 1), (0x22000, 2)], [(0x10000, 3)], [(0x7FFFF0000000, 2), (0x10000, 1)], [(0x40000, 1), (0x41000, 1)]]
 TEXTS = [b"/x\0", b"/y", b"/ab/c\0", b"/" * 255 + b"q\0", b"user.n\0", b"n" * 300, b"/" * 4090 + b"ab\0", b"u" * 255 + b"\0", b"u" * 256,
          b"user." + b"z" * 249 + b"\0", b"tmpfs\0"]
 
 
-def mapped_address(chance, maps, length):
+def mapped_address(chance: random.Random, maps: List[Tuple[int, int]], length: int) -> Optional[int]:
     """An address from which so many bytes are mapped, often up to the end of a page, or None."""
     for _ in range(99):
         start, pages = chance.choice(maps)
@@ -175,7 +180,7 @@ def mapped_address(chance, maps, length):
     return None
 
 
-def any_address(chance, maps):
+def any_address(chance: random.Random, maps: List[Tuple[int, int]]) -> int:
     start, pages = chance.choice(maps)
     end = start + 4096 * pages
     page = start + 4096 * chance.randrange(pages + 1)
@@ -183,7 +188,7 @@ def any_address(chance, maps):
                           page - chance.choice([0, 1, 3, 100]), end, start - 1, 0, 1, 2**64 - 1, 2**64 - 100, 2**63, 2**47 - 1])
 
 
-def stored_texts(chance, maps):
+def stored_texts(chance: random.Random, maps: List[Tuple[int, int]]) -> Tuple[List[str], List[int]]:
     """Lines that store texts, and their addresses."""
     lines, addresses = [], []
     for _ in range(chance.randrange(2, 8)):
@@ -199,7 +204,7 @@ def stored_texts(chance, maps):
     return lines, addresses
 
 
-def memory_call(chance, address):
+def memory_call(chance: random.Random, address: Callable[[], str]) -> str:
     """A call whose arguments are addresses that `address` draws."""
     name = chance.choice(["mknod", "openat", "sysinfo", "mount", "setxattr"])
     if name == "mknod":
@@ -214,7 +219,7 @@ def memory_call(chance, address):
     return f"call setxattr {address()} {address()} {address()} {size} {chance.choice([0, 0, 1, 2, 4])}"
 
 
-def memory(chance, _):
+def memory(chance: random.Random, _: int) -> Draft:
     """Ends of pages, pages that aren't mapped, lengths of texts, and figures that are written."""
     stated = chance.choice(MAPS)
     maps = stated or [(0x10000, 16)]
@@ -222,7 +227,7 @@ def memory(chance, _):
     settings = [*(f"map 0x{start:x} {pages}" for start, pages in stated), "cgroup 400000 0", "figures 60 150000 10 20 0 7", "notify " + " ".join(notified)]
     lines, addresses = stored_texts(chance, maps)
 
-    def address():
+    def address() -> str:
         return f"0x{chance.choice(addresses) if addresses and chance.random() < 0.7 else any_address(chance, maps):x}"
 
     calls = [memory_call(chance, address) for _ in range(chance.randrange(2, 7))]
@@ -232,7 +237,7 @@ def memory(chance, _):
 
 # ---- descriptors
 
-def descriptor_call(chance):
+def descriptor_call(chance: random.Random) -> str:
     kind = chance.choice(["close", "data", "other", "relative"])
     if kind == "close":
         return f"call close {chance.choice(['0', '1', '2', '3', '4', '5', '9', '-1', '0x100000003', '5000', '4294967295'])}"
@@ -243,7 +248,7 @@ def descriptor_call(chance):
     return f"call openat {chance.choice(['3', '4', '0', '-100', '1', '9', '0x1fffffff9c'])} 0x10200 0"
 
 
-def descriptors(chance, _):
+def descriptors(chance: random.Random, _: int) -> Draft:
     """close, openat, descriptors that are put in with and without a number, and their limits."""
     limit = chance.choice([0, 2, 3, 4, 5, 6, 8, 1024])
     broker = [f"broker {number}" for number in chance.sample([5, 7, 0, 1023], 2)]
@@ -262,13 +267,13 @@ def descriptors(chance, _):
 
 # ---- arguments
 
-def with_high_bits(chance, value, bits=32):
+def with_high_bits(chance: random.Random, value: int, bits: int = 32) -> str:
     """The value with bits above those that count."""
     high = chance.choice([0, 0, 1, 0xFFFFFFFF, 0x80000000, chance.getrandbits(32)])
     return f"0x{(value & (2**bits - 1)) | (high << bits) & (2**64 - 1):x}"
 
 
-def argument_call(chance):
+def argument_call(chance: random.Random) -> str:
     path = chance.choice(["0x10000", "0x10100", "0x10200", "0x10300"])
     mode = with_high_bits(chance, chance.choice([chance.randrange(16) << 12 | 0o666, 0o010666, 0o100666, 0, 0o140666]), 16)
     device = with_high_bits(chance, chance.choice([259, 0x12345, 2**20 + 3, 0xFFFFFFFF]))
@@ -282,7 +287,7 @@ def argument_call(chance):
     ])
 
 
-def arguments(chance, _):
+def arguments(chance: random.Random, _: int) -> Draft:
     """Arguments with bits above those that count, and each kind of mode."""
     calls = ["mknod", "mknodat", "setxattr", "openat", "close", "getpid", "sysinfo", "mount"]
     settings = ['dir "/a"', 'reg "/f"', 'attr "/f" "user.o" "1"', 'fifo "/p"', "notify " + " ".join(chance.sample(calls, chance.randrange(1, 5)))]

@@ -1,5 +1,9 @@
 """Drawn scripts about filters, and about the order in which tasks, signals and workers step."""
+from __future__ import annotations
+
 from itertools import product
+from typing import Dict, List, Tuple
+import random
 
 from tools.commands.linux_stage.drawn_files import OPEN_PATH
 from tools.commands.linux_stage.drawn_scripts import Draft, poke, rule
@@ -9,7 +13,7 @@ PREFIX = "security.syscalls.intercept."
 # ---- several tasks
 
 
-def race_call(chance):
+def race_call(chance: random.Random) -> str:
     return chance.choice([
         "call mknod 0x10000 0o020666 259", "call mknod 0x10000 0o010666 0", "call getpid", "call getpid", f"call close {chance.choice([0, 2, 3, 4, 9])}",
         f"call openat -100 0x10000 {chance.choice([OPEN_PATH, '0o12000000'])}", "call sysinfo 0x11000", "call mknodat -100 0x10000 0o100666 0",
@@ -17,7 +21,7 @@ def race_call(chance):
     ])
 
 
-def race_body(chance, names):
+def race_body(chance: random.Random, names: List[str]) -> List[str]:
     """Instructions of a program that starts others."""
     lines, children = [], 0
     for _ in range(chance.randrange(1, 7)):
@@ -40,7 +44,7 @@ def race_body(chance, names):
     return lines
 
 
-def race_main(chance, programs):
+def race_main(chance: random.Random, programs: int) -> List[str]:
     lines = ['poke 0x10000 "/m\\0"'] if chance.random() < 0.5 else []
     lines += [f"{chance.choice(['spawn', 'spawn', 'thread'])} p{chance.randrange(programs)}" for _ in range(chance.randrange(1, 3))]
     for _ in range(chance.randrange(2, 8)):
@@ -51,7 +55,7 @@ def race_main(chance, programs):
     return lines
 
 
-def race_schedule(chance):
+def race_schedule(chance: random.Random) -> List[str]:
     names = ["0", "0", "0.1", "0.1", "0.1", "0.2", "0.1.1", "0.3", "0.2.1"]
     lines, tasks = [f"t 0 {chance.randrange(1, 4)}"], chance.choice([0.35, 0.55, 0.7])
     for _ in range(chance.randrange(40, 160)):
@@ -62,7 +66,7 @@ def race_schedule(chance):
     return lines
 
 
-def race_rules(chance):
+def race_rules(chance: random.Random) -> List[dict]:
     rules = []
     for at in range(chance.randrange(3)):
         call = chance.choice(["mknod", "mknodat", "getpid", "close", "openat", "setxattr", "sysinfo", "mount"])
@@ -76,14 +80,15 @@ def race_rules(chance):
     return rules
 
 
-def races(chance, _):
+def races(chance: random.Random, _: int) -> Draft:
     """Tasks, PIDs, kill, wait, native calls, and any order of steps."""
     settings = [f"pidmax {chance.choice([1, 2, 2, 3, 4])}"] if chance.random() < 0.4 else []
     settings += [f"firstid {chance.choice([1, 0, 5, 2**64 - 2])}"] if chance.random() < 0.2 else []
     settings += [f"rlimit {chance.choice([1024, 3, 4, 5, 6, 1024])}"] if chance.random() < 0.5 else []
     notified = chance.sample(["mknod", "getpid", "close", "openat", "sysinfo", "mknodat"], chance.randrange(1, 5))
     settings += ["broker 5", "broker 7", "notify " + " ".join(notified)] + (["killable"] if chance.random() < 0.35 else [])
-    count, programs = chance.randrange(1, 4), []
+    count = chance.randrange(1, 4)
+    programs: List[Tuple[str, List[str]]] = []
     for at in range(count):
         handler = [f"handler 10 {chance.choice(['plain', 'restart'])}"] if chance.random() < 0.5 else []
         body = race_body(chance, [name for name, _ in programs])
@@ -95,12 +100,12 @@ def races(chance, _):
 
 # ---- signals to callers that wait
 
-def signal_call(chance):
+def signal_call(chance: random.Random) -> str:
     return chance.choice(["call getpid", "call getpid", f"call openat -100 0x10000 {OPEN_PATH}", "call mknod 0x10000 0o020666 259",
                           "call mknod 0x10000 0o010666 0", "call sysinfo 0x11000", "call close 3"])
 
 
-def signal_child(chance, at):
+def signal_child(chance: random.Random, at: int) -> List[str]:
     handlers = [f"handler {signal} {chance.choice(['plain', 'restart', 'restart'])}" for signal in (10, 12, 15) if chance.random() < 0.65]
     calls = []
     for _ in range(chance.randrange(2, 6)):
@@ -109,7 +114,7 @@ def signal_child(chance, at):
     return [*handlers, f'poke 0x10000 "/k{at}\\0"', *calls]
 
 
-def signals(chance, _):
+def signals(chance: random.Random, _: int) -> Draft:
     """Signals at any time to callers that wait: handlers, SA_RESTART, killable waits, threads."""
     settings = ["pidmax 3"] if chance.random() < 0.2 else []
     settings += ["broker 5", f"rlimit {chance.choice([4, 6, 1024])}", "notify " + chance.choice(["getpid", "getpid openat", "mknod getpid", "openat mknod sysinfo"])]
@@ -135,12 +140,12 @@ CALLS = {
 }
 PATHS = {"setxattr": "/f", "mount": "/d", "mknodat": "x", "openat": "/data", "openat at a number": "/data"}
 THEN = {"passed": "pass", "denied": {"deny": "EACCES"}, "openat": {"inject": 5}, "openat at a number": {"inject": 5, "at": 7}, "getpid": "pass"}
-SENT = {"kill": [9], "plain": [10], "restart": [10], "terminate": [15], "plain and terminate": [10, 15], "none": []}
+SENT: Dict[str, List[int]] = {"kill": [9], "plain": [10], "restart": [10], "terminate": [15], "plain and terminate": [10, 15], "none": []}
 CUTS = list(product(SENT, (False, True), CALLS))
 DEEDS = 20
 
 
-def cuts(chance, number):
+def cuts(chance: random.Random, number: int) -> Draft:
     """Something happens to the caller before each deed of the worker, for each kind of call. The number says which."""
     sent, killable, name = CUTS[number // DEEDS % len(CUTS)]
     call, deeds = CALLS[name], number % DEEDS
@@ -159,15 +164,15 @@ def cuts(chance, number):
 
 # ---- memory that a thread writes over
 
-def rewrites(chance, _):
+def rewrites(chance: random.Random, _: int) -> Draft:
     """A thread writes over the arguments while they are read."""
     address = 0x10000 + chance.choice([0, 200, 250, 4000, 4096 - 3])
     texts = [b"/a/x\0", b"/b/y\0", b"/a/" + b"/" * chance.choice([250, 300, 600]) + b"z\0", b"/b/q", b"\0", b"/" * 700, b"x" * 260 + b"\0"]
 
-    def write():
+    def write() -> str:
         return poke(address + chance.choice([0, 0, 3, 256, 255, 300]), chance.choice(texts))
 
-    def call():
+    def call() -> str:
         attribute = f"call setxattr 0x{address:x} 0x12000 0x{address:x} {chance.choice([1, 300, 600])} 0"
         return chance.choice([f"call mknod 0x{address:x} 0o020666 259", f"call mknod 0x{address:x} 0o010666 0", f"call openat -100 0x{address:x} {OPEN_PATH}", attribute])
 
@@ -186,16 +191,16 @@ ANSWERS = [0x7FFF0000, 0x7FFF0000, 0x7FFF0001, 0x50000, 0x50001, 0x5FFFF, 0x5100
 RARE_ANSWERS = [0, 0x80000000, 0x10000, 0x7FFD0000, 0x60000, 0x90000000, 0xFFFF0000, 0x40000]
 
 
-def filter_answer(chance):
+def filter_answer(chance: random.Random) -> str:
     rare = RARE_ANSWERS if chance.random() < 0.3 else []
     return f"ret 0x{chance.choice([*ANSWERS, 0x50001 + chance.randrange(5000), *rare]):x}"
 
 
-def constant(chance):
+def constant(chance: random.Random) -> int:
     return chance.choice([0, 1, 2, 3, 39, 500, 0xFF, 0xFFFF, 0x10000, 0x7FFFFFFF, 0x80000000, 0xFFFFFFFF, 0xC000003E, chance.getrandbits(32)])
 
 
-def filter_line(chance, left):
+def filter_line(chance: random.Random, left: int) -> str:
     """An instruction with so many behind it."""
     kind = chance.random()
     if kind < 0.3:
@@ -213,7 +218,7 @@ def filter_line(chance, left):
     return f"{chance.choice(['jeq', 'jgt', 'jge', 'jset'])} 0x{constant(chance):x} {chance.randrange(left + 1)} {chance.randrange(left + 1)}"
 
 
-def filter_block(chance, listens):
+def filter_block(chance: random.Random, listens: bool) -> List[str]:
     length, lines = chance.randrange(1, 14), []
     for at in range(length):
         lines.append(filter_line(chance, length - at - 1))
@@ -221,7 +226,7 @@ def filter_block(chance, listens):
     return ["filter listener" if listens else "filter", *lines, filter_answer(chance), "end"]
 
 
-def filters(chance, _):
+def filters(chance: random.Random, _: int) -> Draft:
     """One to four filters, and what they say of calls."""
     count = chance.randrange(1, 5)
     listens = chance.randrange(count + 1)

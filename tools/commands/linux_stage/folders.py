@@ -5,7 +5,7 @@ import os
 import shutil
 import subprocess
 from pathlib import Path
-from typing import NamedTuple
+from typing import Iterator, List, NamedTuple, Optional, Union
 
 from tools.commands.command_line.top import TOP
 
@@ -20,7 +20,7 @@ class Pair(NamedTuple):
     script: bytes
 
 
-def files_of(folder):
+def files_of(folder: Path) -> Optional[List[Path]]:
     """The files of the policy and the script, or None where the folder has none that are played."""
     words = (folder / "args").read_text().splitlines() if (folder / "args").is_file() else ["play", "policy.json", "script.txt"]
     refused = (folder / "status").is_file() and (folder / "status").read_text().strip() != "0"
@@ -30,7 +30,7 @@ def files_of(folder):
     return files if all(file.is_file() for file in files) else None
 
 
-def made(folder, room):
+def made(folder: Path, room: str) -> Path:
     """A copy of the folder, in which what it makes was made."""
     copy = Path(room) / "made" / folder.name
     shutil.copytree(folder, copy)
@@ -42,7 +42,7 @@ def named(folder: Path) -> str:
     return str(folder.relative_to(TOP)) if folder.is_relative_to(TOP) else str(folder)
 
 
-def pairs(folder, room):
+def pairs(folder: Union[str, Path], room: str) -> Iterator[Pair]:
     """What a folder has to play. One whose files are made is copied to the room first."""
     folder = Path(folder).resolve()
     place = made(folder, room) if (folder / "make").is_file() else folder
@@ -53,6 +53,6 @@ def pairs(folder, room):
             yield Pair(name, *(file.read_bytes() for file in files))
 
 
-def all_folders():
+def all_folders() -> List[Path]:
     """Those of the repository; an installed package has no cases."""
     return [folder for kind in ("examples", "cases") if (TOP / kind).is_dir() for folder in sorted((TOP / kind).iterdir()) if folder.is_dir()]

@@ -258,7 +258,7 @@ RULES = (
     Rule(("native", *EFFECTS), "trailing-slash", None, lambda it: it.step.walked.slash and it.linux in ("ENOENT", "ENOTDIR")),
     Rule(("read", "write"), "memory-after-end", False, lambda it: it.linux == "end of file" and it.step.has_ended),
     Rule(("read",), "read-of-nothing", False, lambda it: it.pair == ("-", "EFAULT") and it.step.length == 0),
-    Rule(("read",), "sysinfo-part", True, lambda it: it.step.is_torn and not it.linux.startswith(("E", "end"))),
+    Rule(("read",), "sysinfo-part", True, lambda it: it.step.is_torn and it.linux != "end of file" and it.linux[:1] != "E"),
     Rule(("write",), "plant-part", True, lambda it: it.pair == (f"wrote {it.step.fitting}", "EFAULT") and 0 < it.step.fitting < SYSINFO_SIZE),
     Rule(("receive",), "receive-without-tasks", False, lambda it: it.pair == ("ENOENT", "waits") and it.step.has_ended),
     Rule(INSTALLED, "request-order", True, is_order),

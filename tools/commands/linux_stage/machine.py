@@ -1,7 +1,10 @@
 """What is used of the machine: names of errors, the calls and structures of a listener, mounts, and the way to make calls."""
+from __future__ import annotations
+
 import ctypes
 import errno
 import os
+from typing import Optional
 
 KINDS = dict(reg=0o100000, chr=0o020000, blk=0o060000, fifo=0o010000, sock=0o140000, dir=0o040000, bad=0o170000)
 # other calls that tasks and workers make for themselves
@@ -32,46 +35,46 @@ class CannotMap(Stop):
         self.end, self.error = end, error
 
 
-def error_name(number):
+def error_name(number: int) -> str:
     return errno.errorcode.get(number, f"E{number}")
 
 
-def error_number(name):
+def error_number(name: str) -> int:
     """The number of an error as a report names it."""
     return getattr(errno, name, None) or int(name[1:])
 
 
-def seen_by_caller(back):
+def seen_by_caller(back: str) -> str:
     """How a caller sees a value or an error that a report names: values from -4095 to -1 are errors to it."""
     return answer(int(back) if back.lstrip("-").isdigit() else -error_number(back))
 
 
-def answer(result):
+def answer(result: int) -> str:
     """What a call gave back, as a report says it."""
     return error_name(-result) if -4096 < result < 0 else str(result)
 
 
-def checked(result, what):
+def checked(result: int, what: str) -> int:
     if result < 0:
         raise OSError(ctypes.get_errno(), f"{what}: {os.strerror(ctypes.get_errno())}")
     return result
 
 
-def mount(source, target, kind, flags=0, data=None):
+def mount(source: Optional[str], target: str, kind: Optional[str], flags: int = 0, data: Optional[str] = None) -> None:
     texts = [text and text.encode() for text in (source, target, kind, data)]
     checked(libc.mount(*texts[:3], ctypes.c_ulong(flags), texts[3]), f"mount of {target}")
 
 
-def unshare(flags):
+def unshare(flags: int) -> None:
     checked(libc.unshare(flags), "unshare")
 
 
-def end_with_parent():
+def end_with_parent() -> None:
     """The calling process is killed when its parent ends, so that nothing is left."""
     checked(libc.prctl(1, 9, 0, 0, 0), "prctl")
 
 
-def run_first(pid, priority=60):
+def run_first(pid: int, priority: int = 60) -> None:
     """Lets a process run before all that has no priority, until it waits."""
     try:
         os.sched_setscheduler(pid, os.SCHED_FIFO, os.sched_param(priority))
@@ -79,7 +82,7 @@ def run_first(pid, priority=60):
         pass
 
 
-def is_exiting(pid):
+def is_exiting(pid: int) -> bool:
     """Whether a process is at its end, also where it still waits there."""
     try:
         with open(f"/proc/{pid}/stat") as file:
@@ -88,7 +91,7 @@ def is_exiting(pid):
         return True
 
 
-def child_with_number(number):
+def child_with_number(number: int) -> int:
     """This process's number for the newest process that has a number in a namespace below."""
     for pid in sorted((int(name) for name in os.listdir("/proc") if name.isdigit()), reverse=True):
         try:
@@ -101,7 +104,7 @@ def child_with_number(number):
     raise Stop(f"there is no process with the number {number}")
 
 
-def stand_still(pid):
+def stand_still(pid: int) -> None:
     """A process without priority doesn't run while one with it does: it stands still, also inside the kernel."""
     try:
         os.sched_setscheduler(pid, os.SCHED_OTHER, os.sched_param(0))

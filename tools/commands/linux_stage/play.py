@@ -1,10 +1,14 @@
 """Plays the events of a journal on the machine, one by one, and notes where it answers otherwise."""
+from __future__ import annotations
+
 import time
 from collections import defaultdict
-from typing import NamedTuple
+from typing import DefaultDict, List, NamedTuple, Optional, Tuple
 
 from tools.commands.linux_stage import known, machine
+from tools.commands.linux_stage.journal import Event
 from tools.commands.linux_stage.machine import Stop
+from tools.commands.linux_stage.scenes import Step
 from tools.commands.linux_stage.task_events import TaskEvents
 from tools.commands.linux_stage.worker_events import WorkerEvents
 
@@ -27,7 +31,7 @@ class Play:
         self.requests = []  # for descriptors, the oldest first
         self.of_tasks, self.of_workers = TaskEvents(self), WorkerEvents(self)
 
-    def index(self, events):
+    def index(self, events: List[Event]) -> DefaultDict[Tuple[str, str], List[int]]:
         """The places of events by actor and kind, and those of signals by the number that they are sent to."""
         places = defaultdict(list)
         for event in events:
@@ -37,39 +41,39 @@ class Play:
         return places
 
     @property
-    def step(self):
+    def step(self) -> Step:
         """The facts of the event."""
         return self.steps[self.event.place]
 
-    def name(self, what, linux, here, is_orphan):
+    def name(self, what: str, linux: str, here: str, is_orphan: bool) -> Optional[known.Known]:
         """The known difference that this one is, or None."""
         is_init = self.stage.as_init and self.event.actor == "t0"
         place = known.Place(self.stage.call_address, self.stage.as_init, is_init, is_orphan)
         return known.find(self.event.line, what, linux, here, self.step, place)
 
-    def differs(self, what, linux, here, is_orphan=False):
-        known = self.name(what, str(linux), str(here), is_orphan)
-        if known is None and self.doubt:
+    def differs(self, what: str, linux: object, here: object, is_orphan: bool = False) -> None:
+        found = self.name(what, str(linux), str(here), is_orphan)
+        if found is None and self.doubt:
             raise Stop(self.doubt)
-        name = known.name if known else ""
+        name = found.name if found else ""
         again = name == "receive-without-tasks" and any(difference.name == name for difference in self.differences)
         if not again:
             self.differences.append(Difference(self.event.line, what, str(linux), str(here), name))
-        if known is None or known.apart:
+        if found is None or found.apart:
             raise Stop("")
 
-    def same(self, what, linux, here, is_orphan=False):
+    def same(self, what: str, linux: object, here: object, is_orphan: bool = False) -> bool:
         if str(linux) == str(here):
             return True
         self.differs(what, linux, here, is_orphan)
         return False
 
-    def real_id(self, stated):
+    def real_id(self, stated: int) -> int:
         """The machine's id of the notification that a script's kernel names so."""
         distance = (stated - self.settings.firstid) % 2**64
         return self.stage.first_id + distance & 2**64 - 1
 
-    def play(self, end):
+    def play(self, end: float) -> None:
         """Plays the events, up to a time."""
         for self.event in self.events:
             if time.monotonic() > end:
@@ -85,14 +89,14 @@ class Play:
             else:
                 self.of_workers.take(self.event)
 
-    def begin(self):
+    def begin(self) -> None:
         try:
             task = self.stage.first_task()
         except machine.CannotMap as refused:
             self.differs("map", machine.error_name(refused.error), f"mapped up to {refused.end}")
         self.same("PID of the first task", f"pid={task.number}", self.event.fields[1])
 
-    def end(self):
+    def end(self) -> None:
         """Calls that were allowed, and whose answer no event tells, are made: no filter may stop them."""
         for task in self.stage.tasks.values():
             if task.call_is_late and not task.is_dead():

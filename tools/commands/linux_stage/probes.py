@@ -2,11 +2,14 @@
 
 What is expected is written down here, from docs/KERNEL.md and docs/reference; of texts of filters the program is asked.
 """
+from __future__ import annotations
+
 import traceback
 from collections import Counter
-from typing import NamedTuple
+from typing import Callable, List, NamedTuple, Tuple
 
 from tools.commands.linux_stage import apart, probes_of_filters, probes_of_listeners, probes_of_memory
+from tools.commands.linux_stage.comparison import Bench
 
 
 class Probe(NamedTuple):
@@ -18,14 +21,18 @@ class Probe(NamedTuple):
     there: str = ""  # the answer that Linux is known for
 
 
+# takes what is probed, both answers, and the name of a known difference
+Note = Callable[..., None]
+
+
 class Notes:
     """Takes what the probes find."""
 
     def __init__(self):
-        self.probes = []
+        self.probes: List[Probe] = []
 
-    def take(self, area, what, linux, expected, name="", there=""):
-        self.probes.append(Probe(area, what, *map(str, (linux, expected)), name, str(there)))
+    def take(self, area: str, what: str, linux: object, expected: object, name: str = "", there: object = "") -> None:
+        self.probes.append(Probe(area, what, str(linux), str(expected), name, str(there)))
 
 
 def name_of(probe: Probe) -> str:
@@ -33,7 +40,7 @@ def name_of(probe: Probe) -> str:
     return probe.name if probe.linux == probe.there != probe.expected else ""
 
 
-def found_by(group, bench):
+def found_by(group: Callable[[Bench, Notes], None], bench: Bench) -> Tuple[List[Probe], str]:
     """What a group of probes finds, and the error that ended it."""
     notes, error = Notes(), ""
     try:
@@ -43,7 +50,7 @@ def found_by(group, bench):
     return notes.probes, error
 
 
-def run(bench, verbose):
+def run(bench: Bench, verbose: bool) -> int:
     """Prints what differs and the counts, and gives the exit status."""
     groups = [probes_of_listeners.run, probes_of_listeners.run_killable, probes_of_memory.run, probes_of_filters.run]
     found, errors = [], []

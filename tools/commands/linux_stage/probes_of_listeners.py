@@ -1,7 +1,10 @@
 """Requests to a listener that no worker of a script makes."""
+from __future__ import annotations
+
 import signal
 import struct
 import time
+from typing import TYPE_CHECKING, Any, Tuple
 
 from tools.commands.linux_stage import machine
 from tools.commands.linux_stage.machine import ADD_DESCRIPTOR, AND_SEND, CONTINUE, ID_VALID, RECEIVE, SEND, SET_NUMBER, answer
@@ -10,6 +13,10 @@ from tools.commands.linux_stage.stage import LISTENER, Stage
 from tools.commands.linux_stage.stand_in import Order
 from tools.commands.real_workloads.script_text import CALLS
 from tools.references.stepping.scripts import read_script
+
+if TYPE_CHECKING:
+    from tools.commands.linux_stage.comparison import Bench
+    from tools.commands.linux_stage.probes import Note, Notes
 
 SETTINGS = b"pidbase 299\nbroker 5\nrlimit 8\n"
 GETPID = CALLS["getpid"]
@@ -31,28 +38,28 @@ class Scene:
         self.task = self.stage.first_task()
         self.id = None
 
-    def call(self, number=GETPID):
+    def call(self, number: int = GETPID) -> str:
         """Enters a call, and says what it is seen to wait for."""
         self.task.order(Order.SCRIPT_CALL, number)
         return self.task.settle()
 
-    def run(self):
+    def run(self) -> str:
         """Lets the task run, and says what its call answered."""
         return self.tasks.outcome(self.task, self.task.settle())
 
-    def signal(self, number):
+    def signal(self, number: int) -> None:
         machine.libc.kill(self.task.pid, number)
 
-    def handler(self, number, mode):
+    def handler(self, number: int, mode: int) -> None:
         self.task.order(Order.HANDLE, number, mode)
         self.task.settle()
 
-    def ioctl(self, number, size, data, worker=0):
+    def ioctl(self, number: int, size: int, data: bytes, worker: int = 0) -> str:
         stand_in = self.stage.workers[worker]
         state = self.workers.ioctl(stand_in, number, size, data)
         return answer(stand_in.result()) if state == "idle" else "waits"
 
-    def receive(self, worker=0, buffer=b""):
+    def receive(self, worker: int = 0, buffer: bytes = b"") -> str:
         stand_in = self.stage.workers[worker]
         came = self.ioctl(RECEIVE, 80, buffer, worker)
         if came == "waits":
@@ -61,45 +68,45 @@ class Scene:
             self.id = struct.unpack("<Q", stand_in.get(8))[0]
         return came
 
-    def send(self, name, value=0, error=0, flags=0, worker=0):
+    def send(self, name: int, value: int = 0, error: int = 0, flags: int = 0, worker: int = 0) -> str:
         return self.ioctl(SEND, 24, struct.pack("<QqiI", name, value, error, flags), worker)
 
-    def valid(self, name):
+    def valid(self, name: int) -> str:
         return self.ioctl(ID_VALID, 8, struct.pack("<Q", name))
 
-    def add(self, name, flags=0, source=5, number=0, number_flags=0, worker=0):
+    def add(self, name: int, flags: int = 0, source: int = 5, number: int = 0, number_flags: int = 0, worker: int = 0) -> str:
         return self.ioctl(ADD_DESCRIPTOR, 24, struct.pack("<QIIII", name, flags, source, number, number_flags), worker)
 
-    def taken(self, worker):
+    def taken(self, worker: int) -> str:
         """What came of a request of a worker."""
         stand_in = self.stage.workers[worker]
         return answer(stand_in.result()) if stand_in.settle() == "idle" else "waits"
 
-    def received_call(self):
+    def received_call(self) -> int:
         self.call()
         self.receive()
         return self.id
 
-    def close_on_exec(self, number):
+    def close_on_exec(self, number: int) -> int:
         with open(f"/proc/{self.task.pid}/fdinfo/{number}") as file:
             flags = next(int(line.split()[1], 8) for line in file if line.startswith("flags"))
         return flags & O_CLOEXEC
 
 
-def run(bench, notes):
+def run(bench: Bench, notes: Notes) -> None:
     of_listener(bench, lambda *probe: notes.take("listener", *probe), False)
     interrupted(bench, lambda *probe: notes.take("listener", *probe))
 
 
-def run_killable(bench, notes):
-    def note(*probe):
+def run_killable(bench: Bench, notes: Notes) -> None:
+    def note(*probe: Any) -> None:
         notes.take("killable listener", *probe)
 
     of_listener(bench, note, True)
     stopped(Scene(bench, True), note, (0, "waits"))
 
 
-def of_listener(bench, note, killable):
+def of_listener(bench: Bench, note: Note, killable: bool) -> None:
     scene = Scene(bench, killable)
     for probes in (receives, refused, plain_requests, requests_that_send, unfetched, answers):
         probes(scene, note)
@@ -109,7 +116,7 @@ def of_listener(bench, note, killable):
     closed(bench, note, killable)
 
 
-def receives(scene, note):
+def receives(scene: Scene, note: Note) -> None:
     note("RECV where nothing is listed", scene.receive(), "waits")
     scene.call()
     for at in range(80):
@@ -124,7 +131,7 @@ def receives(scene, note):
     note("ID_VALID of a call that was received", scene.valid(scene.id), "0")
 
 
-def refused(scene, note):
+def refused(scene: Scene, note: Note) -> None:
     name = scene.id
     for flags in (2, 3, 4, 8, 2**31, 2**32 - 1):
         note(f"SEND with flags {flags}", scene.send(name, flags=flags), "EINVAL")
@@ -145,7 +152,7 @@ def refused(scene, note):
     note("ADDFD of descriptor 2^32-1", scene.add(name, 0, source=2**32 - 1), "EBADF")
 
 
-def plain_requests(scene, note):
+def plain_requests(scene: Scene, note: Note) -> None:
     name = scene.id
     note("ADDFD with flags 0", scene.add(name, 0, worker=1), "waits")
     note("ADDFD and SEND behind it", scene.add(name, AND_SEND, worker=2), "EBUSY")
@@ -164,7 +171,7 @@ def plain_requests(scene, note):
         note(f"installed at {number}", scene.taken(1), "EMFILE", "descriptor-limit-errors", "EBADF")
 
 
-def requests_that_send(scene, note):
+def requests_that_send(scene: Scene, note: Note) -> None:
     name = scene.id
     note("ADDFD SETFD and SEND at the limit", scene.add(name, AND_SEND | SET_NUMBER, number=8, worker=1), "waits")
     note("ID_VALID while it waits", scene.valid(name), "ENOENT")
@@ -192,7 +199,7 @@ def requests_that_send(scene, note):
     note("ADDFD after that", scene.add(name, AND_SEND, worker=2), "ENOENT")
 
 
-def unfetched(scene, note):
+def unfetched(scene: Scene, note: Note) -> None:
     scene.call()
     before, name = scene.id, scene.id + 1
     note("ID_VALID of a call that wasn't received", scene.valid(name), "ENOENT")
@@ -203,7 +210,7 @@ def unfetched(scene, note):
     note("its id is the next", scene.id - before, 1)
 
 
-def answers(scene, note):
+def answers(scene: Scene, note: Note) -> None:
     name = scene.id
     for value, error, expected in ((0, 0, "0"), (-1, 0, "EPERM"), (2**31, 0, str(2**31)), (5, -13, "EACCES"), (0, -4095, "E4095"), (0, -512, "E512")):
         note(f"SEND of value {value} and error {error}", scene.send(name, value, error), "0")
@@ -215,7 +222,7 @@ def answers(scene, note):
         name = scene.received_call()
 
 
-def ended_caller(scene, note):
+def ended_caller(scene: Scene, note: Note) -> None:
     name = scene.received_call()
     note("ADDFD with flags 0", scene.add(name, 0, worker=1), "waits")
     scene.signal(9)
@@ -223,7 +230,7 @@ def ended_caller(scene, note):
     note("the answer to the request", scene.taken(1), "ENOENT", "descriptor-before-signal", 3)
 
 
-def close_on_exec(scene, note):
+def close_on_exec(scene: Scene, note: Note) -> None:
     name = scene.received_call()
     for number, flags, number_flags in ((3, 0, O_CLOEXEC), (4, 0, 0), (2, SET_NUMBER, O_CLOEXEC), (3, SET_NUMBER, 0), (4, SET_NUMBER, O_CLOEXEC)):
         scene.add(name, flags, number=number if flags else 0, number_flags=number_flags, worker=1)
@@ -232,7 +239,7 @@ def close_on_exec(scene, note):
         note("its close-on-exec mark", scene.close_on_exec(number), number_flags)
 
 
-def closed(bench, note, killable):
+def closed(bench: Bench, note: Note, killable: bool) -> None:
     for received in (True, False):
         scene = Scene(bench, killable)
         scene.received_call() if received else scene.call()
@@ -248,7 +255,7 @@ def closed(bench, note, killable):
     note("RECV again", scene.receive(), "waits")
 
 
-def stopped(scene, note, there):
+def stopped(scene: Scene, note: Note, there: Tuple[object, object]) -> None:
     """A caller that is stopped and goes on. `there` has Linux's answers."""
     name = scene.received_call()
     for number in (signal.SIGSTOP, signal.SIGCONT):
@@ -258,7 +265,7 @@ def stopped(scene, note, there):
     note("RECV then", scene.receive(), "waits", "stopped-calls", there[1])
 
 
-def interrupted(bench, note):
+def interrupted(bench: Bench, note: Note) -> None:
     """Signals to a call that was received, of a listener that isn't killable."""
     scene = Scene(bench)
     scene.handler(10, 2)

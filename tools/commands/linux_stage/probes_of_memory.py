@@ -1,6 +1,9 @@
 """Reads of a task's memory at odd addresses, wait(2) and signals, PIDs that run out, and what a container's root may mount."""
+from __future__ import annotations
+
 import ctypes
 import os
+from typing import TYPE_CHECKING, Any, Callable
 
 from tools.commands.linux_stage import apart, machine
 from tools.commands.linux_stage.machine import answer
@@ -10,13 +13,17 @@ from tools.commands.linux_stage.stage import PROC
 from tools.commands.linux_stage.stand_in import Order
 from tools.commands.real_workloads.script_text import CALLS
 
+if TYPE_CHECKING:
+    from tools.commands.linux_stage.comparison import Bench
+    from tools.commands.linux_stage.probes import Note, Notes
+
 START, END, TEXT = 0x1F000, 0x20000, b"abcdefgh" * 600
 GREATEST_PID = 320
 READS = ((0x1FFF0, 16), (0x1FFF0, 17), (0x1FFF0, 256), (0x1FFFF, 256), (0x1FF00, 256), (0x1F000, 4096), (0x1F000, 65535))
 
 
-def run(bench, notes):
-    def note(*probe):
+def run(bench: Bench, notes: Notes) -> None:
+    def note(*probe: Any) -> None:
         notes.take("memory and wait", *probe)
 
     reads(Scene(bench), note)
@@ -27,14 +34,14 @@ def run(bench, notes):
         note(f"{what} by the root of a user namespace", in_user_namespace(act), "EPERM", "user-namespace", 0)
 
 
-def reads(scene, note):
+def reads(scene: Scene, note: Note) -> None:
     scene.task.put(TEXT)
     scene.task.order(Order.STORE, START, END - START)
     scene.task.settle()
     worker = scene.stage.workers[0]
     memory = worker.own_call(CALLS["openat"], PROC, worker.put(b"%d/mem\0" % scene.task.pid), 2, 0)
 
-    def read(address, length):
+    def read(address: int, length: int) -> Any:
         result = worker.own_call(machine.PREAD, memory, worker.put(b""), length, address)
         return worker.get(result) if result > 0 else answer(result)
 
@@ -49,7 +56,7 @@ def reads(scene, note):
     note("opening of the memory of nobody", answer(nobody), "ESRCH", "memory-errors", "ENOENT")
 
 
-def signalled_wait(scene, mode):
+def signalled_wait(scene: Scene, mode: int) -> str:
     """What wait(2) answers when a signal with a handler of this mode comes."""
     scene.handler(10, mode)
     scene.task.order(Order.START, 17, scene.stage.task("0.1").slot)
@@ -62,7 +69,7 @@ def signalled_wait(scene, mode):
     return answer(scene.task.result()) if scene.task.settle(0.01) == "idle" else "waits"
 
 
-def number_given_again():
+def number_given_again() -> int:
     """The first PID that a namespace gives again, to children that are each reaped before the next is made."""
     with open("/proc/sys/kernel/pid_max", "w") as file:
         file.write(str(GREATEST_PID + 1))
@@ -77,7 +84,7 @@ def number_given_again():
         last = pid
 
 
-def mounted(kind, flags=0, source="none"):
+def mounted(kind: str, flags: int = 0, source: str = "none") -> str:
     result = machine.libc.mount(source.encode(), b"/mnt", kind.encode(), ctypes.c_ulong(flags), None)
     return "0" if result == 0 else machine.error_name(ctypes.get_errno())
 
@@ -88,9 +95,9 @@ MOUNTS = {
 }
 
 
-def in_user_namespace(act):
+def in_user_namespace(act: Callable[[], Any]) -> Any:
     """What an act answers to the root of a user namespace that has the other namespaces as its own."""
-    def as_root():
+    def as_root() -> Any:
         machine.unshare(machine.NEW_USERS)
         for name, text in (("uid_map", "0 0 1"), ("setgroups", "deny"), ("gid_map", "0 0 1")):
             with open(f"/proc/self/{name}", "w") as file:

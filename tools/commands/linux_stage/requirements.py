@@ -5,7 +5,7 @@ import os
 import platform
 import re
 import shutil
-from typing import Tuple
+from typing import Callable, List, Optional, Tuple
 
 from tools.commands.linux_stage import apart, machine
 
@@ -13,9 +13,9 @@ from tools.commands.linux_stage import apart, machine
 OWN_LIMIT = (6, 14)
 
 
-def error_of(act):
+def error_of(act: Callable[[], object]) -> Optional[str]:
     """The error of an act that is tried in a process of its own, or None."""
-    def tried():
+    def tried() -> Optional[str]:
         try:
             act()
         except OSError as error:
@@ -25,7 +25,7 @@ def error_of(act):
     return apart.in_process(tried)
 
 
-def take_priority():
+def take_priority() -> None:
     os.sched_setscheduler(0, os.SCHED_FIFO, os.sched_param(50))
 
 
@@ -42,7 +42,7 @@ def version() -> Tuple[int, ...]:
     return tuple(int(part) for part in re.findall(r"\d+", platform.release())[:2])
 
 
-def missing(processor):
+def missing(processor: int) -> List[str]:
     """A sentence for each thing that is missing."""
     if (platform.system(), platform.machine()) != ("Linux", "x86_64"):
         return [f"it needs Linux on x86-64, and this is {platform.system()} on {platform.machine()}"]

@@ -3,6 +3,8 @@
 All of it stands in a process and mount namespace of its own, on one processor. The process that plays has a higher priority than
 tasks that aren't let run, and a lower one than those that are.
 """
+from __future__ import annotations
+
 import ctypes
 import mmap
 import os
@@ -10,12 +12,14 @@ import resource
 import signal
 import struct
 import time
+from typing import Callable, Dict, List, Set, Tuple
 
 from tools.commands.linux_stage import machine, script_text
 from tools.commands.linux_stage.machine import KINDS, CannotMap, Stop, mount
-from tools.commands.linux_stage.stand_in import FIRST_WORKER, MAILBOX, SLOTS, Order, Task, Worker
+from tools.commands.linux_stage.stand_in import FIRST_WORKER, MAILBOX, SLOTS, Order, StandIn, Task, Worker
 from tools.commands.real_workloads import bpf
 from tools.commands.real_workloads.script_text import CALLS, FIRST_ADDRESS, FIRST_PAGES
+from tools.references.stepping.scripts import Node
 
 # descriptors of the broker that no script's number reaches
 PROC, LISTENER, FIRST_OF_WORKERS = 1100, 1101, 1200
@@ -30,12 +34,12 @@ OWN_NOTIFIED = 0x0FFFFFFF  # the number of no call
 SIGNALS = (signal.SIGUSR1, signal.SIGUSR2, signal.SIGTERM)
 
 
-def device(major, minor):
+def device(major: int, minor: int) -> int:
     """A device's number as mknod(2) takes it."""
     return (minor & 0xFF) | (major << 8) | ((minor & ~0xFF) << 12)
 
 
-def make_node(path, node):
+def make_node(path: bytes, node: Node) -> None:
     if node.kind == "dir":
         os.mkdir(path, 0o777)
     elif node.kind == "link":
@@ -44,7 +48,7 @@ def make_node(path, node):
         os.mknod(path, KINDS[node.kind] | 0o666, os.makedev(*node.device) if node.device else 0)
 
 
-def coded(word, value, then, otherwise):
+def coded(word: str, value: int, then: int, otherwise: int) -> bpf.Instruction:
     """An instruction of a script's filter as the kernel takes it."""
     return bpf.Instruction(bpf.WORDS[word], then, otherwise, value)
 
@@ -58,7 +62,7 @@ class Stage:
         self.slots = 0
         self.first_id = 0x1234567  # of the script's first notification
 
-    def build(self, workers):
+    def build(self, workers: Set[int]) -> None:
         os.sched_setaffinity(0, {self.processor})
         self.make_file_systems()
         self.make_tree()
@@ -69,7 +73,7 @@ class Stage:
         if not self.as_init:
             self.limit_process_numbers(self.settings.pidbase)
 
-    def make_file_systems(self):
+    def make_file_systems(self) -> None:
         top = f"{self.room}/stage"
         mount("none", "/", None, 0x4000 | 0x40000)  # all that follows is mounted here alone
         mount("none", top, "tmpfs", 0, "mode=777,size=200m")
@@ -81,7 +85,7 @@ class Stage:
         mount("proc", "/proc", "proc")
         os.umask(0)
 
-    def make_tree(self):
+    def make_tree(self) -> None:
         paths = [self.host.encode()]
         for node in self.settings.nodes[1:]:
             paths.append(b"/".join([paths[node.directory], node.name]))
@@ -90,13 +94,13 @@ class Stage:
             os.setxattr(paths[node], name, value, follow_symlinks=False)
         self.root = paths[self.settings.root]
 
-    def make_mailboxes(self):
+    def make_mailboxes(self) -> None:
         self.boxes_file = os.memfd_create("mailboxes", 0)
         os.ftruncate(self.boxes_file, MAILBOX * SLOTS)
         self.boxes = mmap.mmap(self.boxes_file, MAILBOX * SLOTS)
         self.address = ctypes.addressof(ctypes.c_char.from_buffer(self.boxes))
 
-    def limit_process_numbers(self, last):
+    def limit_process_numbers(self, last: int) -> None:
         """Limits the numbers of the namespace that the calling process is in, and says which one was given last."""
         highest = max(script_text.FIRST_FREE_PID + 1, self.settings.pidbase + self.settings.pidmax + 1)
         for name, value in (("pid_max", highest), ("ns_last_pid", last)):
@@ -105,22 +109,22 @@ class Stage:
 
     # ---- numbers of processes: those of the script, and those that this process and the workers have for them
 
-    def is_init(self, task):
+    def is_init(self, task: Task) -> bool:
         return self.as_init and task.name == "0"
 
-    def own_number(self, number):
+    def own_number(self, number: int) -> int:
         """This process's number for the process that has a number of the script, or one that nobody has."""
         if not self.as_init and number >= script_text.FIRST_FREE_PID:
             return number
         return next((task.pid for task in reversed(self.tasks.values()) if task.number == number and not task.reaped), 0)
 
-    def number_of(self, pid):
+    def number_of(self, pid: int) -> int:
         """The script's number for a process, by this process's number for it."""
         return next((task.number for task in self.tasks.values() if task.pid == pid), pid)
 
     # ---- processes
 
-    def launch(self, stand_in, openings):
+    def launch(self, stand_in: StandIn, openings: Dict[int, Callable[[], int]]) -> None:
         """Starts a stand-in in the container's root. `openings` makes its descriptors, by number."""
         is_init = self.as_init and stand_in.slot < FIRST_WORKER
         if is_init:
@@ -142,10 +146,10 @@ class Stage:
         if stand_in.slot < FIRST_WORKER:
             machine.stand_still(pid)
 
-    def become(self, stand_in, openings):
+    def become(self, stand_in: StandIn, openings: Dict[int, Callable[[], int]]) -> None:
         machine.run_first(0)
-        for number in SIGNALS:
-            signal.signal(number, signal.SIG_DFL)
+        for each in SIGNALS:
+            signal.signal(each, signal.SIG_DFL)
         program = os.open(self.program, os.O_PATH)
         resource.setrlimit(resource.RLIMIT_NOFILE, (4096, 4096))
         os.dup2(self.boxes_file, MAILBOXES)
@@ -159,9 +163,10 @@ class Stage:
             os.close(descriptor)
         os.dup2(MAILBOXES, 3)
         os.close(MAILBOXES)
-        os.execve(PROGRAM, ["stand_in", str(stand_in.slot)], {})
+        no_environment: Dict[str, str] = {}
+        os.execve(PROGRAM, ["stand_in", str(stand_in.slot)], no_environment)
 
-    def make_broker(self):
+    def make_broker(self) -> None:
         """Worker 0 is the process of the broker, with its descriptors; the others are its threads."""
         self.broker = self.workers[0] = Worker(self.boxes, self.address, 0)
         self.launch(self.broker, {PROC: lambda: os.open(self.proc, os.O_PATH)})
@@ -169,7 +174,7 @@ class Stage:
         for number in self.settings.broker:
             self.open_at(number)
 
-    def open_at(self, number):
+    def open_at(self, number: int) -> None:
         made = self.broker.own_call(machine.MEMFD_CREATE, self.broker.put(b"descriptor\0"), 0)
         if made == number:
             return
@@ -177,7 +182,7 @@ class Stage:
             raise Stop(f"descriptor {number} of the broker")
         self.broker.own_call(CALLS["close"], made)
 
-    def worker(self, number):
+    def worker(self, number: int) -> Worker:
         if number not in self.workers:
             worker = self.workers[number] = Worker(self.boxes, self.address, number)
             self.broker.order(Order.START, THREAD | signal.SIGCHLD, worker.slot)
@@ -189,12 +194,12 @@ class Stage:
             self.prepare_to_leave(worker)
         return self.workers[number]
 
-    def prepare_to_leave(self, worker):
+    def prepare_to_leave(self, worker: Worker) -> None:
         """A receive that waits is left by a signal whose handler doesn't restart it."""
         worker.order(Order.HANDLE, machine.SIGUSR2, 2)
         worker.settle()
 
-    def task(self, name):
+    def task(self, name: str) -> Task:
         """A stand-in for a new task, which isn't started."""
         if self.slots >= FIRST_WORKER:
             raise Stop("more tasks than are compared")
@@ -204,7 +209,7 @@ class Stage:
 
     # ---- the first task
 
-    def first_task(self):
+    def first_task(self) -> Task:
         task = self.task("0")
         self.launch(task, dict.fromkeys((0, 1, 2), lambda: os.open("/dev/null", os.O_RDWR)))
         self.tasks["0"] = task
@@ -224,7 +229,7 @@ class Stage:
         task.hold_in_handlers()
         return task
 
-    def install_filter(self, task, instructions, listens):
+    def install_filter(self, task: Task, instructions: List[Tuple[str, int, int, int]], listens: bool) -> None:
         """Installs a filter behind instructions that allow the stand-in's own calls, but for one that they notify, and gives its listener to the broker."""
         low, high = self.code.own_call_after & 0xFFFFFFFF, self.code.own_call_after >> 32
         notify = [("ld", 0, 0, 0), ("jeq", OWN_NOTIFIED, 0, 1), ("ret", bpf.NOTIFY, 0, 0)] if listens else []
@@ -239,7 +244,7 @@ class Stage:
         if listens:
             self.take_listener(task, listener)
 
-    def own_id(self, task):
+    def own_id(self, task: Task) -> int:
         """The id of a notified call of the stand-in's own. The ids behind it are those of the script's calls."""
         task.order(Order.OWN_CALL, OWN_NOTIFIED)
         task.settle()
@@ -249,7 +254,7 @@ class Stage:
         task.settle()
         return struct.unpack("<Q", found)[0]
 
-    def take_listener(self, task, listener):
+    def take_listener(self, task: Task, listener: int) -> None:
         held = self.broker.own_call(machine.PIDFD_OPEN, task.pid, 0)
         taken = self.broker.own_call(machine.PIDFD_GETFD, held, listener, 0)
         if self.broker.own_call(machine.DUP2, taken, LISTENER) != LISTENER:
@@ -258,7 +263,7 @@ class Stage:
         self.broker.own_call(CALLS["close"], held)
         task.own_call(CALLS["close"], listener)
 
-    def drop_capabilities(self, task):
+    def drop_capabilities(self, task: Task) -> None:
         """A container's root without the rights to mount and to make devices."""
         sets = task.put(struct.pack("<6I", RIGHTS, RIGHTS, 0, 0, 0, 0), CAPABILITIES)
         if task.own_call(machine.CAPSET, task.put(struct.pack("<II", 0x20080522, 0)), sets) != 0:

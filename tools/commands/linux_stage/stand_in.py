@@ -8,7 +8,7 @@ import struct
 import subprocess
 import time
 from enum import IntEnum
-from typing import NamedTuple
+from typing import NamedTuple, Optional
 
 from tools.commands.linux_stage import machine
 from tools.commands.linux_stage.machine import Stop
@@ -65,62 +65,62 @@ class StandIn:
 
     # ---- the mailbox: orders, done, order, handled, released, hold
 
-    def order(self, order, *arguments):
+    def order(self, order: Order, *arguments: int) -> None:
         padded = [argument & (2**64 - 1) for argument in [*arguments, *[0] * 8][:8]]
         struct.pack_into("<8Q", self.boxes, self.at + ARGUMENTS, *padded)
         self.words[2] = order
         self.words[0] += 1
         self.wake(0)
 
-    def wake(self, word):
+    def wake(self, word: int) -> None:
         machine.libc.syscall(machine.FUTEX, ctypes.c_void_p(self.address + self.at + word), 1, 1000, None, None, 0)
 
-    def result(self):
+    def result(self) -> int:
         return struct.unpack_from("<q", self.boxes, self.at + RESULT)[0]
 
-    def put(self, data, at=TEXTS):
+    def put(self, data: bytes, at: int = TEXTS) -> int:
         """Puts bytes into the mailbox, and gives their address in the stand-in."""
         self.boxes[self.at + at:self.at + at + len(data)] = data
         return MAILBOXES + self.at + at
 
-    def get(self, length, at=TEXTS):
+    def get(self, length: int, at: int = TEXTS) -> bytes:
         return bytes(self.boxes[self.at + at:self.at + at + length])
 
-    def addresses(self):
+    def addresses(self) -> Addresses:
         return Addresses(*struct.unpack_from("<3Q", self.boxes, self.at + ADDRESSES))
 
-    def hold_in_handlers(self):
+    def hold_in_handlers(self) -> None:
         self.words[5] = 1
 
     @property
-    def handlers(self):
+    def handlers(self) -> int:
         """How many handlers it has entered."""
         return self.words[3]
 
-    def handled(self, number):
+    def handled(self, number: int) -> Handled:
         signal, _, instruction, value = struct.unpack_from("<IIQQ", self.boxes, self.at + LOG + (number & 63) * 24)
         return Handled(signal, instruction, value)
 
     # ---- what it is seen to do
 
-    def started(self, pid, number=None):
+    def started(self, pid: int, number: Optional[int] = None) -> None:
         """`pid` is this process's number for it, and `number` its own."""
         self.pid, self.number = pid, pid if number is None else number
         self.poll = select.poll()
         self.poll.register(os.pidfd_open(pid), select.POLLIN)
 
-    def is_dead(self):
+    def is_dead(self) -> bool:
         if not self.dead and self.poll.poll(0):
             self.dead = True
         return self.dead
 
-    def is_idle(self):
+    def is_idle(self) -> bool:
         return self.words[1] == self.words[0]
 
-    def is_in_handler(self):
+    def is_in_handler(self) -> bool:
         return bool(self.words[5]) and self.words[3] != self.words[4]
 
-    def waits_in(self):
+    def waits_in(self) -> str:
         """The function of the kernel in which it waits."""
         try:
             with open(f"/proc/{self.pid}/wchan") as file:
@@ -128,7 +128,7 @@ class StandIn:
         except OSError:
             return "gone"
 
-    def state(self):
+    def state(self) -> Optional[str]:
         """Where it stands, or None while it runs."""
         if self.is_dead():
             return "dead"
@@ -143,7 +143,7 @@ class StandIn:
 
     # ---- its steps
 
-    def settle(self, seconds=0.05):
+    def settle(self, seconds: float = 0.05) -> str:
         """Lets it run until it waits: for an order, in a handler, in a notification, or for ever."""
         machine.run_first(self.pid)
         end = time.monotonic() + seconds
@@ -156,12 +156,12 @@ class StandIn:
             raise Stop(f"{self.name} ran for {seconds} s: the machine is too busy")
         return state or f"busy in {self.waits_in()}"
 
-    def leave_handler(self):
+    def leave_handler(self) -> None:
         if self.is_in_handler():
             self.words[4] = self.words[3]
             self.wake(16)
 
-    def own_call(self, number, *arguments):
+    def own_call(self, number: int, *arguments: int) -> int:
         """Makes a call that the script doesn't have, past its filters."""
         self.order(Order.OWN_CALL, number, *arguments)
         state = self.settle()

@@ -1,9 +1,12 @@
 """The events of workers, done by stand-ins and compared: each is a call on the listener, on the caller's memory, or in its tree."""
+from __future__ import annotations
+
 import struct
 from dataclasses import dataclass
+from typing import Any, List, Optional
 
 from tools.commands.linux_stage import machine
-from tools.commands.linux_stage.journal import HANDS
+from tools.commands.linux_stage.journal import HANDS, Event
 from tools.commands.linux_stage.known import OTHER_ACTS, mount_flags
 from tools.commands.linux_stage.machine import ADD_DESCRIPTOR, AND_SEND, CONTINUE, ID_VALID, IOCTL, KINDS, RECEIVE, SEND, answer
 from tools.commands.linux_stage.script_text import has_listener
@@ -34,36 +37,36 @@ class WorkerEvents:
         self.play, self.stage = play, play.stage
         self.same, self.differs = play.same, play.differs
 
-    def take(self, event):
+    def take(self, event: Event) -> None:
         worker = self.stage.worker(int(event.actor[1:]))
         what = event.what.replace("-", "_")
         fields = self.request_fields(event) if what == "act" else event.fields
         getattr(self, f"do_{what}")(worker, *fields)
 
-    def request_fields(self, event):
+    def request_fields(self, event: Event) -> List[Any]:
         """Texts of a request may have blanks."""
         words = tokens(event.line)
         return words[words.index("act") + 1:]
 
     # ---- the listener
 
-    def ioctl(self, worker, number, size, data):
+    def ioctl(self, worker: Worker, number: int, size: int, data: bytes) -> str:
         worker.put(data.ljust(size, b"\0"))
         worker.order(Order.OWN_CALL, IOCTL, LISTENER, number, worker.put(b""))
         return worker.settle(0.005)
 
-    def leave_receive(self, worker):
+    def leave_receive(self, worker: Worker) -> None:
         machine.libc.kill(worker.pid, machine.SIGUSR2)
         worker.settle()
 
-    def do_skip(self, worker):
+    def do_skip(self, worker: Worker) -> None:
         if worker.request:
             hand = worker.request.hand
             self.same("take", answer(hand.result()) if hand.is_idle() else "waits", "waits")
         elif has_listener(self.stage.settings):
             self.compare_waiting(worker)
 
-    def compare_waiting(self, worker):
+    def compare_waiting(self, worker: Worker) -> None:
         """A worker that has nothing to receive waits in the receive."""
         if self.ioctl(worker, RECEIVE, 80, b"") == "idle":
             self.differs("receive", "a notification" if worker.result() == 0 else answer(worker.result()), "waits")
@@ -71,7 +74,7 @@ class WorkerEvents:
         self.leave_receive(worker)
         self.same("receive that waits", answer(worker.result()), "EINTR")
 
-    def do_recv(self, worker, came, pid=None):
+    def do_recv(self, worker: Worker, came: str, pid: Optional[str] = None) -> None:
         if self.ioctl(worker, RECEIVE, 80, b"") != "idle":
             self.leave_receive(worker)
             self.differs("receive", "waits", came)
@@ -83,7 +86,7 @@ class WorkerEvents:
             self.differs("receive", answer(result), came)
         self.compare_notification(worker, int(came.removeprefix("id=")), pid)
 
-    def compare_notification(self, worker, stated, pid):
+    def compare_notification(self, worker: Worker, stated: int, pid: str) -> None:
         got_id, got_pid, flags, number, architecture, _ = struct.unpack_from("<QIIiIQ", worker.get(80))
         arguments = list(struct.unpack_from("<6Q", worker.get(80), 32))
         self.same("id", got_id, self.play.real_id(stated))
@@ -93,11 +96,11 @@ class WorkerEvents:
         self.same("call of the notification", (number, arguments, got_pid, architecture, flags), (*entered, X86_64, 0))
         worker.caller, worker.notification = got_pid, stated
 
-    def do_check(self, worker, stated, came):
+    def do_check(self, worker: Worker, stated: str, came: str) -> None:
         self.ioctl(worker, ID_VALID, 8, struct.pack("<Q", self.play.real_id(int(stated))))
         self.same("check", "ok" if worker.result() == 0 else answer(worker.result()), came)
 
-    def do_send(self, worker, stated, back, came):
+    def do_send(self, worker: Worker, stated: str, back: str, came: str) -> None:
         value, error, flags = 0, 0, 0
         if back == "continue":
             flags = CONTINUE
@@ -108,7 +111,7 @@ class WorkerEvents:
         self.ioctl(worker, SEND, 24, struct.pack("<QqiI", self.play.real_id(int(stated)), value, error, flags))
         self.same("send", "ok" if worker.result() == 0 else answer(worker.result()), came)
 
-    def do_addfd_put(self, worker, *fields):
+    def do_addfd_put(self, worker: Worker, *fields: str) -> None:
         """The script's lines tell which flags a request has. The hand that makes it may have to wait."""
         *stated, came = fields
         asked, hand = self.play.step.put.asked, self.stage.worker(HANDS + worker.seat)
@@ -120,7 +123,7 @@ class WorkerEvents:
             self.play.requests.append(worker.request)
         self.same("request for a descriptor", "ok" if state != "idle" else answer(hand.result()), came)
 
-    def do_addfd_take(self, worker, came):
+    def do_addfd_take(self, worker: Worker, came: str) -> None:
         request, worker.request = worker.request, None
         hand = request.hand
         state = "idle" if hand.is_idle() else hand.settle()
@@ -131,7 +134,7 @@ class WorkerEvents:
             state = hand.settle()
         self.same("take of a descriptor", answer(hand.result()) if state == "idle" else "waits", came)
 
-    def do_let_go(self, worker):
+    def do_let_go(self, worker: Worker) -> None:
         for descriptor in (worker.memory, worker.base):
             if descriptor is not None:
                 worker.own_call(CALLS["close"], descriptor)
@@ -139,10 +142,10 @@ class WorkerEvents:
 
     # ---- the caller's memory and its directories
 
-    def open(self, worker, path, flags):
+    def open(self, worker: Worker, path: str, flags: int) -> int:
         return worker.own_call(CALLS["openat"], PROC, worker.put(path.encode() + b"\0"), flags, 0)
 
-    def kept_high(self, worker, descriptor):
+    def kept_high(self, worker: Worker, descriptor: int) -> int:
         """Below a number stand the descriptors of the script alone."""
         if descriptor < 0:
             return descriptor
@@ -150,14 +153,14 @@ class WorkerEvents:
         worker.own_call(CALLS["close"], descriptor)
         return kept
 
-    def do_open_mem(self, worker, pid, came):
+    def do_open_mem(self, worker: Worker, pid: str, came: str) -> None:
         opened = self.kept_high(worker, self.open(worker, f"{self.stage.own_number(int(pid))}/mem", O_RDWR))
         if opened >= 0:
             worker.memory = opened
         gone = opened in (-2, -3)
         self.same("opening of the memory", "ok" if opened >= 0 else "ESRCH" if gone else answer(opened), came)
 
-    def do_open_base(self, worker, pid, number, came):
+    def do_open_base(self, worker: Worker, pid: str, number: str, came: str) -> None:
         pid = self.stage.own_number(int(pid))
         opened = self.open(worker, f"{pid}/root", O_PATH | 0o200000)
         gone = opened in (-2, -3, -13)
@@ -169,7 +172,7 @@ class WorkerEvents:
         linux = "ok" if opened >= 0 else "ESRCH" if gone else "EBADF" if opened in (-2, -20) else answer(opened)
         self.same("opening of the base", linux, came)
 
-    def do_read(self, worker, address, length, came):
+    def do_read(self, worker: Worker, address: str, length: str, came: str) -> None:
         if worker.memory is None:
             self.same("read without a memory", "EFAULT", came)
             return
@@ -182,11 +185,11 @@ class WorkerEvents:
             bytes_read = worker.get(max(result, 0)).rstrip(b"\0").hex() or "-" if result >= 0 else answer(result)
             self.same("read", bytes_read, came)
 
-    def is_fault(self, result, address):
+    def is_fault(self, result: int, address: int) -> bool:
         """/proc/PID/mem answers EIO where nothing is mapped, and EINVAL for the upper half of the addresses."""
         return result == -5 or result == -22 and address >= 2**63 - 200
 
-    def do_plant(self, worker, address, came):
+    def do_plant(self, worker: Worker, address: str, came: str) -> None:
         if came == "EDQUOT":
             return  # the policy's own limit
         result = worker.own_call(machine.PWRITE, worker.memory, worker.put(self.play.step.written), SYSINFO, int(address))
@@ -196,7 +199,7 @@ class WorkerEvents:
 
     # ---- effects
 
-    def do_act(self, worker, *words):
+    def do_act(self, worker: Worker, *words: Any) -> None:
         *request, came = words
         if came == "EDQUOT":
             return  # the policy's own limit
@@ -209,13 +212,13 @@ class WorkerEvents:
             linux = "nothing mounted"
         self.same(f"effect of {request[0]}", linux, came)
 
-    def goes_to_base(self, worker, path):
+    def goes_to_base(self, worker: Worker, path: bytes) -> bool:
         """Goes to the directory from which a relative path is meant. Whether the effect can be tried: Linux has no such call without a directory."""
         if not path.startswith(b"/") and worker.base is not None:
             worker.own_call(machine.FCHDIR, worker.base)
         return path.startswith(b"/") or worker.base is not None
 
-    def mknod(self, worker, request):
+    def mknod(self, worker: Worker, request: List[Any]) -> int:
         path, kind, *numbers = request[1:] if request[0] == "mknod" else request[2:]
         base = worker.base
         if base is None:
@@ -223,7 +226,7 @@ class WorkerEvents:
         made = device(*map(int, numbers[0].split(":"))) if numbers else 0
         return worker.own_call(CALLS["mknodat"], base, worker.put(path + b"\0"), KINDS[kind] | 0o666, made)
 
-    def mount(self, worker, request):
+    def mount(self, worker: Worker, request: List[Any]) -> int:
         """Mounts an empty file system, whatever the type. Where the call has no type or an empty one, the mount has the same."""
         source, target, kind, flags = request[1:5]
         entered = self.play.entered.get(worker.notification)
@@ -231,7 +234,7 @@ class WorkerEvents:
         texts = (worker.put(source + b"\0"), worker.put(target + b"\0", SECOND_TEXT), worker.put(b"tmpfs\0" if kind else b"\0", THIRD_TEXT) if has_type else 0)
         return worker.own_call(CALLS["mount"], *texts, int(flags.removeprefix("flags=")), 0)
 
-    def setxattr(self, worker, request):
+    def setxattr(self, worker: Worker, request: List[Any]) -> int:
         path, name, value, flags = request[1:5]
         value = b"" if value == "-" else bytes.fromhex(value)
         texts = (worker.put(path + b"\0"), worker.put(name + b"\0", SECOND_TEXT), worker.put(value, THIRD_TEXT))
