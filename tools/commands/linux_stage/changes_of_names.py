@@ -1,7 +1,7 @@
 """Tries the names of known differences, without Linux: of each what it answered once, and answers that mustn't get the name.
 
-`wrong_answers.json` has for each name a script, one of its steps, and the two answers that differ. These have to get the name. They mustn't, if Linux's
-answer is the wrong one, if the journal's line is changed, or in the script without the cause. Some names only probes show.
+`wrong_answers.json` has for each name one of the steps of its case, or of another one, and the two answers that differ. These have to get the name. They
+mustn't, if Linux's answer is the wrong one, if the journal's line is changed, or in the script without the cause. Some names only probes show.
 """
 from __future__ import annotations
 
@@ -34,7 +34,7 @@ def name_of(row: dict, step: scenes.Step, linux: str, line: str) -> 'str | None'
 
 def faults_of(row: dict) -> Iterator[str]:
     """What is wrong with the name of a row."""
-    folder = TOP / row["case"]
+    folder = TOP / (row.get("case") or differences.cases()[row["name"]])
     policy, script = (folder / "policy.json").read_bytes(), (folder / "script.txt").read_bytes()
     step = step_of(policy, script, row["event"])
     if step is None:

@@ -28,6 +28,11 @@ def names() -> Set[str]:
     return {row["name"] for row in table()}
 
 
+def cases() -> Dict[str, str]:
+    """The folder of each difference."""
+    return {row["name"]: row["case"] for row in table()}
+
+
 def shown_by() -> Dict[str, str]:
     """The folder of each difference that a comparison shows, with the name of the difference."""
     return {row["case"]: row["name"] for row in table() if row["shown"]}

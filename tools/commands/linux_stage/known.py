@@ -5,26 +5,26 @@ is one that the cause gives, and the cause is present in this very step. So anot
 """
 from __future__ import annotations
 
+import os
 from typing import Callable, NamedTuple, Optional, Tuple
 
 from tools.commands.linux_stage import attributes
 from tools.commands.linux_stage.machine import KINDS, SET_NUMBER, error_name
 from tools.commands.linux_stage.scenes import SYSINFO_SIZE, Put, Step
+from tools.commands.real_workloads.script_text import END_OF_ADDRESSES
 from tools.references.stepping import filters
 from tools.references.stepping.facts import CALL_NAMES
 from tools.references.stepping.kernel import MOST_DESCRIPTORS
+from tools.references.stepping.rules import BITS, MAGIC, MAGIC_MASK, NEVER_GRANTED
 
 WALK = ("ENOENT", "ENOTDIR", "ELOOP", "ENAMETOOLONG")
 OF_PROBES = {335: "dead", 336: "ENXIO"}
-# of the flags of a mount: bind and move, which have a source; remount, and unbindable, private, slave, shared; no user, and the bits above
-FROM_SOURCE = 0x1000 | 0x2000
-OTHER_ACTS = FROM_SOURCE | 0x20 | 0xF << 17
+# of the flags of a mount: those that have a source; those that mount nothing; no user, and the bits above
+FROM_SOURCE = BITS["BIND"] | BITS["MOVE"]
+OTHER_ACTS = NEVER_GRANTED | BITS["UNBINDABLE"] | BITS["PRIVATE"] | BITS["SLAVE"] | BITS["SHARED"]
 REFUSED_FLAGS = 2**64 - 2**31
-MAGIC, OF_MAGIC = 0xC0ED0000, 0xFFFF0000
-END_OF_ADDRESSES = 2**47
-O_CREAT = 0o100
-# the flags of openat for which it has this error of its own: O_CREAT with O_EXCL, O_CREAT or access to write, O_DIRECTORY, O_NOFOLLOW
-OPENING = {"EEXIST": 0o300, "EISDIR": 0o103, "ENOTDIR": 0o200000, "ELOOP": 0o400000}
+# the flags of openat for which it has this error of its own
+OPENING = {"EEXIST": os.O_CREAT | os.O_EXCL, "EISDIR": os.O_CREAT | os.O_ACCMODE, "ENOTDIR": os.O_DIRECTORY, "ELOOP": os.O_NOFOLLOW}
 RESTARTS = ("E512", "E513", "E514", "E516")
 
 
@@ -166,14 +166,14 @@ def is_kind_first(seen: Seen) -> bool:
 def is_for_its_flags(seen: Seen) -> object:
     """Whether Linux opens otherwise for flags of openat."""
     linux, here, flags = seen.linux, seen.here, seen.step.arguments[2]
-    return here.isdigit() and flags & OPENING.get(linux, 0) or here == "ENOENT" and linux.isdigit() and flags & O_CREAT
+    return here.isdigit() and flags & OPENING.get(linux, 0) or here == "ENOENT" and linux.isdigit() and flags & os.O_CREAT
 
 
 # ---- workers
 
 def mount_flags(flags: int) -> int:
     """The flags as mount(2) takes them: those of the old magic number don't count."""
-    return flags & ~OF_MAGIC if flags & OF_MAGIC == MAGIC else flags
+    return flags & ~MAGIC_MASK if flags & MAGIC_MASK == MAGIC else flags
 
 
 def is_other_mount(seen: Seen) -> bool:

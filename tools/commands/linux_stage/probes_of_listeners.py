@@ -1,6 +1,7 @@
 """Requests to a listener that no worker of a script makes."""
 from __future__ import annotations
 
+import os
 import signal
 import struct
 import time
@@ -20,7 +21,6 @@ if TYPE_CHECKING:
 
 SETTINGS = b"pidbase 299\nbroker 5\nrlimit 8\n"
 GETPID = CALLS["getpid"]
-O_CLOEXEC = 0o2000000
 UNKNOWN_IDS = (0, 1, 77, 2**64 - 1)
 # in which the processor is left to others: nothing that is to stand still could go on then
 PAUSE = 0.05
@@ -90,7 +90,7 @@ class Scene:
     def close_on_exec(self, number: int) -> int:
         with open(f"/proc/{self.task.pid}/fdinfo/{number}") as file:
             flags = next(int(line.split()[1], 8) for line in file if line.startswith("flags"))
-        return flags & O_CLOEXEC
+        return flags & os.O_CLOEXEC
 
 
 def run(bench: Bench, notes: Notes) -> None:
@@ -141,7 +141,7 @@ def refused(scene: Scene, note: Note) -> None:
     note("SEND with flags 2 to an unknown id", scene.send(1, flags=2), "EINVAL")
     for flags in (4, 5, 8, 2**31):
         note(f"ADDFD with flags {flags}", scene.add(name, flags), "EINVAL")
-    for flags in (1, 2, 0o4000, O_CLOEXEC | 1, 2**31):
+    for flags in (1, 2, 0o4000, os.O_CLOEXEC | 1, 2**31):
         note(f"ADDFD with newfd_flags {flags:o}", scene.add(name, 0, number_flags=flags), "EINVAL")
     note("ADDFD with a number and without SETFD", scene.add(name, 0, number=4), "EINVAL")
     note("ADDFD and SEND with a number and without SETFD", scene.add(name, AND_SEND, number=4), "EINVAL")
@@ -232,7 +232,7 @@ def ended_caller(scene: Scene, note: Note) -> None:
 
 def close_on_exec(scene: Scene, note: Note) -> None:
     name = scene.received_call()
-    for number, flags, number_flags in ((3, 0, O_CLOEXEC), (4, 0, 0), (2, SET_NUMBER, O_CLOEXEC), (3, SET_NUMBER, 0), (4, SET_NUMBER, O_CLOEXEC)):
+    for number, flags, number_flags in ((3, 0, os.O_CLOEXEC), (4, 0, 0), (2, SET_NUMBER, os.O_CLOEXEC), (3, SET_NUMBER, 0), (4, SET_NUMBER, os.O_CLOEXEC)):
         scene.add(name, flags, number=number if flags else 0, number_flags=number_flags, worker=1)
         scene.run()
         note(f"ADDFD with flags {flags} and newfd_flags {number_flags:o} is installed at", scene.taken(1), number)

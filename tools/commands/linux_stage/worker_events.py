@@ -1,6 +1,7 @@
 """The events of workers, done by stand-ins and compared: each is a call on the listener, on the caller's memory, or in its tree."""
 from __future__ import annotations
 
+import os
 import struct
 from dataclasses import dataclass
 from typing import Any, List, Optional
@@ -14,11 +15,10 @@ from tools.commands.linux_stage.stage import FIRST_OF_WORKERS, LISTENER, PROC, d
 from tools.commands.linux_stage.stand_in import SECOND_TEXT, THIRD_TEXT, Order, Worker
 from tools.commands.real_workloads.bpf import X86_64
 from tools.commands.real_workloads.script_text import CALLS, tokens
+from tools.references.stepping.kernel import SYSINFO_SIZE
 from tools.references.stepping.reports import asked_text
 
 F_DUPFD = 0
-O_RDWR, O_PATH, O_CLOEXEC = 0o2, 0o10000000, 0o2000000
-SYSINFO = 112
 NO_BASE = 999999
 
 
@@ -154,7 +154,7 @@ class WorkerEvents:
         return kept
 
     def do_open_mem(self, worker: Worker, pid: str, came: str) -> None:
-        opened = self.kept_high(worker, self.open(worker, f"{self.stage.own_number(int(pid))}/mem", O_RDWR))
+        opened = self.kept_high(worker, self.open(worker, f"{self.stage.own_number(int(pid))}/mem", os.O_RDWR))
         if opened >= 0:
             worker.memory = opened
         gone = opened in (-2, -3)
@@ -162,11 +162,11 @@ class WorkerEvents:
 
     def do_open_base(self, worker: Worker, pid: str, number: str, came: str) -> None:
         pid = self.stage.own_number(int(pid))
-        opened = self.open(worker, f"{pid}/root", O_PATH | 0o200000)
+        opened = self.open(worker, f"{pid}/root", os.O_PATH | os.O_DIRECTORY)
         gone = opened in (-2, -3, -13)
         if opened >= 0 and number != "-100":
             worker.own_call(CALLS["close"], opened)
-            opened = self.open(worker, f"{pid}/fd/{number}", O_PATH | 0o200000)
+            opened = self.open(worker, f"{pid}/fd/{number}", os.O_PATH | os.O_DIRECTORY)
         opened = self.kept_high(worker, opened)
         worker.base = opened if opened >= 0 else worker.base
         linux = "ok" if opened >= 0 else "ESRCH" if gone else "EBADF" if opened in (-2, -20) else answer(opened)
@@ -192,9 +192,9 @@ class WorkerEvents:
     def do_plant(self, worker: Worker, address: str, came: str) -> None:
         if came == "EDQUOT":
             return  # the policy's own limit
-        result = worker.own_call(machine.PWRITE, worker.memory, worker.put(self.play.step.written), SYSINFO, int(address))
+        result = worker.own_call(machine.PWRITE, worker.memory, worker.put(self.play.step.written), SYSINFO_SIZE, int(address))
         fault = self.is_fault(result, int(address))
-        linux = {SYSINFO: "ok", 0: "end of file"}.get(result, "EFAULT" if fault else f"wrote {result}" if result >= 0 else answer(result))
+        linux = {SYSINFO_SIZE: "ok", 0: "end of file"}.get(result, "EFAULT" if fault else f"wrote {result}" if result >= 0 else answer(result))
         self.same("write", linux, came)
 
     # ---- effects
