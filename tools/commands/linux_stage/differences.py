@@ -3,7 +3,7 @@ from __future__ import annotations
 
 import json
 from pathlib import Path
-from typing import Dict, List, Set
+from typing import Any, Dict, List, Set
 
 FILE = Path(__file__).resolve().parent / "differences.json"
 # what a difference may do to who tests a policy, the worst first
@@ -16,11 +16,11 @@ KINDS = {
 }
 
 
-def table() -> List[Dict[str, str]]:
+def table() -> List[Dict[str, Any]]:
     return json.loads(FILE.read_text())
 
 
-def of_kind(kind: str) -> List[Dict[str, str]]:
+def of_kind(kind: str) -> List[Dict[str, Any]]:
     return [row for row in table() if row["misleads"] == kind]
 
 

@@ -12,24 +12,22 @@ LONG = "| difference | Linux | here | why | seen in |\n|---|---|---|---|---|\n"
 KEYS = {"name", "misleads", "what", "linux", "here", "why", "test", "seen", "stored", "shown", "case"}
 
 
-def case_of(row: Dict[str, Any], top: str) -> str:
+def case_of(row: Dict[str, Any]) -> str:
     """A link to the case that shows it; empty if there is none."""
-    return f"[{Path(row['case']).parts[0].removesuffix('s')}]({top}{row['case']})" if row["case"] else ""
+    return f"[{Path(row['case']).parts[0].removesuffix('s')}](../{row['case']})" if row["case"] else ""
 
 
-def seen_in(row: Dict[str, Any], top: str) -> str:
-    """Where it was seen, with its case."""
+def seen_in(row: Dict[str, Any]) -> str:
     scripts = f"{row['stored']} script{'s' if row['stored'] > 1 else ''}"
-    place = scripts if row["seen"] == "scripts" else row["seen"]
-    return f"{place}; {case_of(row, top)}" if row["case"] else place
+    return scripts if row["seen"] == "scripts" else row["seen"]
 
 
 def short(row: Dict[str, Any]) -> List[str]:
-    return [f"**{row['name']}** {row['what']}", row["test"], case_of(row, "../")]
+    return [f"**{row['name']}** {row['what']}", row["test"], case_of(row)]
 
 
 def long(row: Dict[str, Any]) -> List[str]:
-    return [f"**{row['name']}**", row["linux"], row["here"], row["why"], seen_in(row, "../../")]
+    return [f"**{row['name']}**", row["linux"], row["here"], row["why"], seen_in(row)]
 
 
 def tables(head: str, columns: Callable[[Dict[str, Any]], List[str]]) -> str:
