@@ -75,6 +75,19 @@ def examples():
     return found
 
 
+def brokers_and_cases():
+    """Brokers that make a mistake each, judged sessions, and the cases that can be played as they are: those that the guides name."""
+    cases = {os.path.relpath(at, TOP): set(names) for at, _, names in os.walk(f"{TOP}/cases")}
+    played = [folder for folder, names in cases.items() if {"policy.json", "script.txt"} <= names and "make" not in names]
+    found = {f"{folder}/{name}": entry for folder in ("tests/brokers", "tests/judged", *played) for name, entry in files_below(folder).items()}
+    return {name: entry for name, entry in found.items() if not name.endswith(".md")}
+
+
+def shared():
+    """What the command's users read, copy and play, below share/seccomp-broker."""
+    return {**below(examples(), "examples"), **calls_of_step(), **brokers_and_cases()}
+
+
 def calls_of_step():
     """The header and the source that a broker of one's own in C takes, and that of the library for one as it is; they stand beside the examples as they do in a checkout."""
     of_shim = (f"lib/shim/{name}" for name in sorted(os.listdir(f"{TOP}/lib/shim")))
@@ -118,7 +131,7 @@ def command(made, python="/usr/bin/env python3"):
     """The command with its tools, pages, examples, man pages and completions."""
     home = {**tools(python), "seccomp_broker": read(made.program)._replace(mode=0o755), **{name: Link(f"../../share/seccomp-broker/{name}") for name in ("examples", "include", "lib")},
             "about.json": text(json.dumps(making.about(made), indent=1) + "\n")}
-    share = {**below(examples(), "examples"), **calls_of_step(), "proof.txt": text(making.proof_text(made))}
+    share = {**shared(), "proof.txt": text(making.proof_text(made))}
     found = {"bin/seccomp-broker": Link("../lib/seccomp-broker/broker"), **below(home, HOME), **below(share, SHARE)}
     for name, page in manual.pages(made.name, made.time).items():
         found[f"share/man/man{name[-1]}/{name}.gz"] = File(zipped(page.encode()))
