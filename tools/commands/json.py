@@ -26,11 +26,11 @@ def asked():
     """What was asked for: the program, a word, and the operands behind it."""
     parser = Words("json")
     parser.add_argument("--program", metavar="PATH", help="runs this program, in place of the command's own")
-    parser.add_argument("word", metavar="WORD", help="a word of the program")
+    parser.add_argument("word", metavar="COMMAND", help="a command of the program")
     parser.add_argument("operands", metavar="..", nargs=argparse.REMAINDER, help="what stands behind it")
     found = parser.parse_args()
     if found.word not in WORDS:
-        parser.error(f"the program has no word {found.word!r}{table.meant(found.word, WORDS)}")
+        parser.error(f"the program has no command {found.word!r}{table.meant(found.word, WORDS)}")
     if found.operands and found.operands[0] in HELP_OPTIONS:
         parser.print_help()
         parser.exit()

@@ -29,7 +29,7 @@ class NotTried(Exception):
 def asked() -> Namespace:
     parser = Parser("lint-script")
     parser.add_argument("--program", metavar="PATH", help="asks this program, in place of the command's own")
-    parser.add_argument("--for", metavar="WORD", dest="use", choices=likely.USES, default=likely.PLAY, help="what the script is for")
+    parser.add_argument("--for", metavar="COMMAND", dest="use", choices=likely.USES, default=likely.PLAY, help="what the script is for")
     parser.add_argument("file", metavar="FILE", help="the script")
     return parser.parse_args()
 

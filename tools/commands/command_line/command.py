@@ -60,12 +60,12 @@ def list_of(known):
 def unknown(known, word):
     command, is_checkout = place.command(), place.about() is None
     options = [name for it in known["options"] if is_checkout or "only" not in it for name in it["names"]]
-    what = f"there is no word {word!r}{table.meant(word, options if word.startswith('-') else table.names(known))}"
+    what = f"there is no command {word!r}{table.meant(word, options if word.startswith('-') else table.names(known))}"
     if word in known["explain"]["names"] + known["plain"]["names"]:
-        what = f"{word} comes after a word, as in {command} play {word} POLICY SCRIPT"
+        what = f"{word} comes after a command, as in {command} play {word} POLICY SCRIPT"
     elif os.path.isfile(word):
-        what = f"{word!r} is a file, and a word stands before it, as in {command} play POLICY SCRIPT"
-    print(f"broker: {what}\nhelp: `{command} help` lists all words", file=sys.stderr)
+        what = f"{word!r} is a file, and comes after a command, as in {command} play POLICY SCRIPT"
+    print(f"broker: {what}\nhelp: `{command} help` lists all commands", file=sys.stderr)
     return WRONG_WORDS
 
 

@@ -68,7 +68,7 @@ def list_page(known, command, examples, is_checkout, documents):
     kinds = {kind: "\n".join(row(it["word"], it["summary"]) for it in known["words"] if it["kind"] == kind) for kind in ("program", "tool")}
     options = [it for it in known["options"] if is_checkout or it.get("only") != "checkout"]
     parts = [paragraph(f"{command} {known['summary']}. It intercepts nothing on this machine."),
-             f"  {command} WORD ..", f"Words of the program:\n{kinds['program']}", f"Tools:\n{kinds['tool']}",
-             "\n".join([row("help [WORD]", "prints this list, or the page of a word"), *(row(shown(it), it["help"]) for it in options)]),
+             f"  {command} COMMAND ..", f"Commands of the program:\n{kinds['program']}", f"Tools:\n{kinds['tool']}",
+             "\n".join([row("help [COMMAND]", "prints this list, or the page of a command"), *(row(shown(it), it["help"]) for it in options)]),
              "To begin with:\n\n  {command} play {examples}/first/policy.json {examples}/first/script.txt", documents]
     return filled("\n\n".join(parts), command, examples) + "\n"

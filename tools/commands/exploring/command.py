@@ -65,7 +65,7 @@ OF_SHIM = ("same_root", "writable", "broker_fd", "unguarded")
 
 def words_of(words):
     """The words up to `--`, read, and the command behind it."""
-    parser = Words("explore-broker", " -- COMMAND [WORD ..]")
+    parser = Words("explore-broker", " -- COMMAND [ARGUMENT ..]")
     parser.add_argument("policy", metavar="POLICY")
     parser.add_argument("script", metavar="SCRIPT")
     parser.add_argument("delays", metavar="DELAYS", type=number(0, MOST_DELAYS))

@@ -17,13 +17,13 @@ def offered(item):
 
 
 def options(known, entry):
-    return [*table.options(known, entry), {"names": ["--help"], "help": "prints the word's page"}]
+    return [*table.options(known, entry), {"names": ["--help"], "help": "prints the command's page"}]
 
 
 def first_words(known):
     """What may stand behind the command, with its help."""
     words = [(it["word"], it["summary"]) for it in known["words"]]
-    return [*words, (table.HELP, "prints the list of words, or the page of one")] + [(it["names"][0], it["help"]) for it in known["options"] if "only" not in it]
+    return [*words, (table.HELP, "prints the list of commands, or the page of one")] + [(it["names"][0], it["help"]) for it in known["options"] if "only" not in it]
 
 
 def marked(known, entry):
@@ -120,14 +120,14 @@ ZSH = r"""#compdef seccomp-broker
 _seccomp_broker() {{
   if (( CURRENT == 2 )); then
     local -a known=({first})
-    _describe -t words word known
+    _describe -t commands command known
     return
   fi
   local word=$words[2]
   shift words
   (( CURRENT-- ))
   case $word in
-    help) _arguments '1:word:({names})' ;;
+    help) _arguments '1:command:({names})' ;;
 {cases}
   esac
 }}

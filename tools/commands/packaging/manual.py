@@ -60,18 +60,18 @@ def see_also(known, name, number):
 
 
 def of_command(known, version, time):
-    found = [*head(COMMAND, 1, known["summary"], version, time), ".SH SYNOPSIS", ".B seccomp\\-broker", ".I WORD", "\\&..", ".br", ".B seccomp\\-broker help", ".RI [ WORD ]",
+    found = [*head(COMMAND, 1, known["summary"], version, time), ".SH SYNOPSIS", ".B seccomp\\-broker", ".I COMMAND", "\\&..", ".br", ".B seccomp\\-broker help", ".RI [ COMMAND ]",
              ".br", ".B seccomp\\-broker \\-\\-version", ".SH DESCRIPTION"]
     for at, text in enumerate(known["text"]):
         found += [".PP"] * (at > 0) + sentences(filled(text))
-    kinds = {"program": "WORDS OF THE PROGRAM", "tool": "TOOLS"}
+    kinds = {"program": "COMMANDS OF THE PROGRAM", "tool": "TOOLS"}
     for kind, title in kinds.items():
         found.append(f".SH {title}")
         for entry in known["words"]:
             found += word(known, entry) if entry["kind"] == kind else []
     found += [".SH OPTIONS", *listed((texts.shown(it), it["help"]) for it in known["options"] if "only" not in it)]
     statuses = roff.man(roff.section(document("docs/reference/STATUSES.md"), "Exit statuses"), 2)
-    found += [".SH EXIT STATUS", "A tool's statuses stand with it.", "Those of the program\\(aqs words are:", *statuses[1:]]
+    found += [".SH EXIT STATUS", "A tool's own statuses are in its section.", "Those of the program\\(aqs commands are:", *statuses[1:]]
     return [*found, *see_also(known, COMMAND, 1)]
 
 
