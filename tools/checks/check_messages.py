@@ -160,7 +160,7 @@ OF_FILES = {
     ("compare", "good.json"): ["usage: ./broker compare OLD NEW [SCRIPT]", "compare needs 2 or 3 arguments, got 1", "help: `./broker help compare` has its page"],
     ("run", "good.json", "script.txt", "0", "99"): [
         "usage: ./broker run POLICY SCRIPT WORKERS CPUS [every EVERY]", "CPUS is a number from 0 to 16, and not 99", "help: `./broker help run` has its page"],
-    ("play", "good.json", "script.txt", "--plain"): ["usage: ./broker play POLICY SCRIPT", "--plain stands first behind play", "help: write `./broker play --plain ..`"],
+    ("play", "good.json", "script.txt", "--plain"): ["usage: ./broker play POLICY SCRIPT", "--plain comes first after play", "help: write `./broker play --plain ..`"],
     ("handover", "--explain", "good.json", "requests.txt", "1"): [
         "script: requests in the schedule", "requests.txt:6:1: this is what a worker of another broker asks for", "    w 0 recv", "    ^~~~~~~~",
         "help: `handover` replaces this project's own worker, whose steps are counted, as in `w 0 9`; `play`", "      plays this schedule"],

@@ -35,7 +35,7 @@ def architectures(text):
     found = [profiles.with_prefix("SCMP_ARCH_", it) for it in names(text)]
     unknown = [it for it in found if it not in profiles.ARCHITECTURES]
     if unknown or profiles.NATIVE not in found:
-        raise argparse.ArgumentTypeError(f"{unknown[0]} can't stand in a script" if unknown else "x86_64 has to be among them: a script's calls are of that one")
+        raise argparse.ArgumentTypeError(f"{unknown[0]} can't be in a script" if unknown else "x86_64 has to be among them: a script's calls are of that one")
     return found
 
 
@@ -45,7 +45,7 @@ def words():
     parser.add_argument("-o", dest="file", metavar="FILE", help="the file to write")
     parser.add_argument("--capabilities", type=capabilities, default=set(), metavar="NAMES", help="what the container has")
     parser.add_argument("--architectures", type=architectures, default=[], metavar="NAMES", help="what the filter is for")
-    parser.add_argument("--notify", type=names, default=[], metavar="CALLS", help="calls that are notified, whatever the profile says of them")
+    parser.add_argument("--notify", type=names, default=[], metavar="CALLS", help="calls that are notified in any case")
     parser.add_argument("--kernel", type=profiles.version, default=profiles.running_kernel(), metavar="VERSION", help="the kernel, as 6.1")
     parser.add_argument("--binary-tree", action="store_const", const=2, default=1, help="libseccomp's order of tests for large filters")
     return parser.parse_args()

@@ -27,7 +27,7 @@ def asked():
     parser = Words("json")
     parser.add_argument("--program", metavar="PATH", help="runs this program, in place of the command's own")
     parser.add_argument("word", metavar="COMMAND", help="a command of the program")
-    parser.add_argument("operands", metavar="..", nargs=argparse.REMAINDER, help="what stands behind it")
+    parser.add_argument("operands", metavar="..", nargs=argparse.REMAINDER, help="its arguments")
     found = parser.parse_args()
     if found.word not in WORDS:
         parser.error(f"the program has no command {found.word!r}{table.meant(found.word, WORDS)}")

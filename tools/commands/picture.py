@@ -22,7 +22,7 @@ MOST = 8 * LIMIT
 def arguments() -> Namespace:
     parser = Parser("picture")
     parser.add_argument("report", nargs="?", default="-", help="the file of a report, or of what handover, pod or explore printed; - is standard input")
-    parser.add_argument("--judged", metavar="FILE", help="what judge or reference-judge says of this report's history, which is then drawn too")
+    parser.add_argument("--judged", metavar="FILE", help="the output of judge or reference-judge on this report's history, which is drawn too")
     parser.add_argument("-o", "--output", metavar="FILE.html", help="the file that is written")
     parser.add_argument("--still", action="store_true", help="a still picture, as SVG, of a report")
     parser.add_argument("--title", help="the page's title; without it the report's place")

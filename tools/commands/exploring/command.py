@@ -99,7 +99,7 @@ def words_of(words):
     if asked.listener_path is not None and not any(asked.listener_path in word for word in asked.command):
         # (all would wait at the same one)
         if asked.instances > 1:
-            parser.error("of several instances each needs its own SOCKET, so it has to stand in COMMAND")
+            parser.error("of several instances each needs its own SOCKET, so it has to be in COMMAND")
         asked.jobs = 1
     return asked
 

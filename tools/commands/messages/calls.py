@@ -16,7 +16,7 @@ from tools.commands.real_workloads.script_text import CALLS
 WRONG_COUNT, WRONG_FORM, BAD_NUMBER, OUT_OF_RANGE, UNKNOWN_NAME = "wrong count", "wrong form", "bad number", "out of range", "unknown name"
 # what is said where the place in the line can't be told, by the reason that the program names (docs/reference/OUTPUTS.md, An explanation)
 PLAIN = {
-    "bad byte": "a byte stands here that is no blank and begins no token",
+    "bad byte": "this byte is no blank, and begins no token",
     "bad quote": "a quoted text isn't closed, has a byte or an escape that it may not have, or touches another token",
     "unknown word": "the line doesn't begin with the name of a call",
     WRONG_COUNT: "an operand is missing, or is one too many",
@@ -255,7 +255,7 @@ def unknown_word(line):
 def wrong_count(line, fault):
     word, tokens = line.word, line.operands
     if fault.few and tokens and tokens[-1].text in DEVICES and word in ("mknod", "mknodat"):
-        return f"a `{tokens[-1].text}` has numbers, and none stand here", f"write them behind it, as `{tokens[-1].text} 1:3`"
+        return f"a `{tokens[-1].text}` has numbers, and none are here", f"write them after it, as `{tokens[-1].text} 1:3`"
     count = f"{len(tokens)} {'operand' if len(tokens) == 1 else 'operands'}" if tokens else "no operand"
     return f"`{word}` has {count} here, which is too {'few' if fault.few else 'many'}", form_of(line)
 
@@ -268,7 +268,7 @@ def wrong_form(line, fault):
     if token.text[:1] in "'`":
         return f"{operand.name} is in quotes of another kind", f'''write `"{token.text.strip("'`")}"`'''
     if operand is DATA and token.text in BITS["mount"]:
-        return f"the flag {token.text} stands in the place of DATA", "flags stand between commas without blanks, as `RDONLY,NODEV`"
+        return f"the flag {token.text} is in the place of DATA", "flags have commas between them and no blanks, as `RDONLY,NODEV`"
     if operand is VALUE and re.fullmatch(r"-|(?:[0-9a-f]{2})+", token.text):
         return "VALUE of `setxattr` isn't in double quotes", f"a report has it in hexadecimal; here it is `{quoted(bytes.fromhex(token.text.strip('-')))}`"
     return f"{operand.name} of `{line.word}` isn't in double quotes", f'write `"{token.text}"`'
@@ -305,7 +305,7 @@ def out_of_range(line, fault):
     token, operand = fault.token, fault.operand
     if token.is_quoted:
         hint = "leave out the `\\0` at its end: texts here have none" if token.content.endswith(b"\0") else "leave it out: the kernel reads a text up to its first zero byte"
-        return f"a zero byte stands in {operand.name}", hint
+        return f"{operand.name} has a zero byte", hint
     if operand is NUMBER:
         name = next((name for name, number in CALLS.items() if number == number_of(token.text)), None)
         return (f"{token.text} is the number of {name}", f"write the call by its name: `{USAGE[name][0]}`") if name else (f"{token.text} is no number of a call", f"NUMBER of `other` is 0 to {MOST_NUMBER}")
@@ -313,7 +313,7 @@ def out_of_range(line, fault):
         return f"{token.text} is no descriptor", f"DIRFD is {-MOST_NUMBER - 1} to {MOST_NUMBER}, and `AT_FDCWD` is -100"
     number = number_of(token.text[5:])
     if number > MOST_PERMISSIONS and number < 2**16:
-        return f"{token.text[5:]} has a kind in it", f"the kind stands before it, and the mode has the permissions alone: write `mode=0o{number & MOST_PERMISSIONS:o}`"
+        return f"{token.text[5:]} has a kind in it", f"the kind comes before it, and the mode has only the permissions: write `mode=0o{number & MOST_PERMISSIONS:o}`"
     return f"{token.text[5:]} is outside of the range of mode", "mode has the permissions, 0 to 4095 (`0o7777`)"
 
 
@@ -357,8 +357,8 @@ def unknown_name(line, fault):
             kind = line.tokens[line.tokens.index(token) - 1].text
             return f"a `{kind}` has no numbers", f"leave them out: only {listed(DEVICES)} have numbers"
         right = in_c(text)
-        what = f"write `mode={written(right, text)}`" if right is not None and 0 <= right <= MOST_PERMISSIONS else "behind the node stands `mode=NUMBER`, as `mode=0o600`, or nothing"
-        return f"{text} stands in the place of the mode", what
+        what = f"write `mode={written(right, text)}`" if right is not None and 0 <= right <= MOST_PERMISSIONS else "after the node comes `mode=NUMBER`, as `mode=0o600`, or nothing"
+        return f"{text} is in the place of the mode", what
     return unknown_flag(line, token)
 
 
@@ -372,7 +372,7 @@ def place_and_words(line, reason):
         return None
     comment = next((token for token in line.operands if not token.is_quoted and token.text.startswith(("#", "//", ";"))), None)
     if comment and reason != OUT_OF_RANGE and line.word in READERS:
-        return comment.start, line.tokens[-1].end, "a comment stands behind a call", "a comment is a line of its own that begins with `#`: put it above this line"
+        return comment.start, line.tokens[-1].end, "a comment follows a call", "a comment is a line of its own that begins with `#`: put it above this line"
     told = unknown_word(line) if reason == "unknown word" else REASONS[reason](line, fault)
     end = line.tokens[-1].end if reason == WRONG_COUNT else fault.token.end
     return (fault.token.start, end, *told)
@@ -386,7 +386,7 @@ def finding_of(data, number, reason):
     line = text.line(number)
     first = len(text.whole) - len(text.whole.lstrip())
     if number == text.line_of(first) and text.whole.startswith(("{", "["), first):
-        return text.finding("json", first, first + 1, "this looks like JSON, and the calls stand second", "give the policy's file first, and then the file of calls")
+        return text.finding("json", first, first + 1, "this looks like JSON, and the calls come second", "give the policy's file first, and then the file of calls")
     start, whole = len(line) - len(line.lstrip()), len(line.rstrip())
     from_report = pasted(line)
     try:

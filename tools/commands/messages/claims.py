@@ -12,7 +12,7 @@ EXAMPLE = '{"never": [{"name": "disks", "call": "mknod", "when": {"kind": "blk"}
 MOST = 1024
 # words that are said of a rule, as they are said of a claim
 OF_CLAIMS = (
-    ("the report shows it where the rule decides", "it stands in the line that says whether the claim holds"), (r"a rule for (`\w+`) answers", r"a claim of \1 says"),
+    ("the report shows it if the rule decides", "the line that says if the claim holds has it"), (r"a rule for (`\w+`) answers", r"a claim of \1 says"),
     (r"(?<!own )\brules\b", "claims"), (r"\brule\b", "claim"),
 )
 
@@ -37,11 +37,11 @@ def in_claims(text):
 def of_whole(kind, at):
     """What is wrong with the object, its keys or one of its lists; None where the refusal is about a claim."""
     if not at.keys:
-        return f"claims stand in an object, and this is {policies.said(at.value)}", f"write `{EXAMPLE}`"
+        return f"claims are in an object, and this is {policies.said(at.value)}", f"write `{EXAMPLE}`"
     if len(at.keys) > 1:
         return None
     if kind == "unknown key":
-        hint = "a policy has that key, and stands in front of the claims. " if at.last in policies.words.TOP_KEYS else meant(at.last, LISTS)
+        hint = "a policy has that key, and comes before the claims. " if at.last in policies.words.TOP_KEYS else meant(at.last, LISTS)
         return f"a file of claims has no key {at.last}", advice(hint, f"its keys are {listed(LISTS)}")
     return f"`{at.last}` is an array of claims, and this is {policies.said(at.value)}", f"write `{EXAMPLE}`"
 

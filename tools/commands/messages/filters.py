@@ -19,7 +19,7 @@ def instruction_fault(line, left):
     if line.word in ("lsh", "rsh") and value >= 32:
         return f"a shift by {value} leaves nothing of 32 bits", "a shift is 0 to 31"
     if any(skipped >= left for skipped in jumps(line)):
-        most = f"at most {left - 1} can be skipped here" if left else "none stands behind it"
+        most = f"at most {left - 1} can be skipped here" if left else "none follows it"
         return f"the jump goes past the last instruction: {most}", "JT and JF count instructions that are skipped, and not places"
     if line.word == "ret" and value & ACTION == TRAP:
         return "a filter of a script can't answer SECCOMP_RET_TRAP", "answer an error in its place, as `ret 0x00050026` for ENOSYS"

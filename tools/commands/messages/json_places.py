@@ -131,7 +131,7 @@ class Scanner:
         self.refuse_comment()
         if self.next() in ("}", "]"):
             self.refuse("unopened", f"nothing is open that this `{self.next()}` could close", "remove it, or open its object or array further up")
-        self.refuse("text-behind-the-end", "the JSON value has ended, and there is more behind it", f"a {self.subject.name} is one object: put everything between its `{{` and its `}}`")
+        self.refuse("text-behind-the-end", "the JSON value has ended, and there is more after it", f"a {self.subject.name} is one object: put everything between its `{{` and its `}}`")
 
     def refuse_comment(self) -> None:
         """Refuses a comment, where one begins here."""
@@ -159,7 +159,7 @@ class Scanner:
     def nested(self, letter):
         self.open.append(self.at)
         if len(self.open) > MOST_NESTED:
-            self.refuse("too-deep", f"more than {MOST_NESTED} objects and arrays stand in one another", f"a {self.subject.name} needs {self.subject.nested} at most")
+            self.refuse("too-deep", f"more than {MOST_NESTED} objects and arrays are in one another", f"a {self.subject.name} needs {self.subject.nested} at most")
         value = self.object() if letter == "{" else self.array()
         value.end = self.at
         self.open.pop()
@@ -199,7 +199,7 @@ class Scanner:
             self.refuse_other_closing(closing)
         if not has_some:
             if self.next() == ",":
-                self.refuse("lone-comma", "a comma stands only between two values", "remove it")
+                self.refuse("lone-comma", "a comma is only between two values", "remove it")
             return False
         if self.next() != ",":
             self.refuse_no_comma()
@@ -208,7 +208,7 @@ class Scanner:
         self.skip()
         self.refuse_comment()
         if self.next() in ("}", "]"):
-            self.refuse("trailing-comma", f"a comma stands before the closing `{self.next()}`", "remove it: JSON has no comma behind the last part", comma)
+            self.refuse("trailing-comma", f"a comma is before the closing `{self.next()}`", "remove it: JSON has no comma after the last part", comma)
         if self.next() == ",":
             self.refuse("lone-comma", "two commas follow each other", "remove one")
         if not self.next():
@@ -224,7 +224,7 @@ class Scanner:
         if self.next() == ":" and self.text[self.open[-1]] == "[":
             self.refuse("key-in-an-array", "an array has values, and no keys", "put an object into it: `[{\"name\": ..}]`")
         if self.next() in ("=", ":", ";"):
-            self.refuse("no-comma", f"`{self.next()}` stands where a comma belongs", "put `,` between two values")
+            self.refuse("no-comma", f"`{self.next()}` is in the place of a comma", "put `,` between two values")
         self.refuse("missing-comma", "a comma is missing before this", "put `,` between two values")
 
     def key(self):
@@ -245,22 +245,22 @@ class Scanner:
             end = end if 0 <= end < line_end else self.at
             text = self.text[self.at + 1:end]
             kind = "single quotes" if letter == "'" else f"quotes like {letter}"
-            self.refuse("wrong-quotes", f"{what} stands in {kind}", f'JSON has double quotes alone: `"{text}"`' if text else "JSON has double quotes alone", end=end + 1)
+            self.refuse("wrong-quotes", f"{what} is in {kind}", f'JSON has only double quotes: `"{text}"`' if text else "JSON has only double quotes", end=end + 1)
 
     def colon(self, key: str) -> None:
         self.skip()
         self.refuse_comment()
         if self.next() == "=":
-            self.refuse("missing-colon", "`=` stands where a colon belongs", f'write `"{key}": ` and the value')
+            self.refuse("missing-colon", "`=` is in the place of a colon", f'write `"{key}": ` and the value')
         if self.next() != ":":
             if not self.next():
-                self.refuse_end(f'go on behind "{key}" with `:` and a value')
-            self.refuse("missing-colon", f'a colon is missing behind the key "{key}"', f'write `"{key}": ` and the value')
+                self.refuse_end(f'go on after "{key}" with `:` and a value')
+            self.refuse("missing-colon", f'a colon is missing after the key "{key}"', f'write `"{key}": ` and the value')
         self.at += 1
         self.skip()
         self.refuse_comment()
         if self.next() in (",", "}", "]"):
-            self.refuse("missing-value", f'the key "{key}" has no value', "put a value behind the colon, or remove the key")
+            self.refuse("missing-value", f'the key "{key}" has no value', "put a value after the colon, or remove the key")
         if not self.next():
             self.refuse_end("add the value")
 
@@ -291,7 +291,7 @@ class Scanner:
             elif letter == "\n" or not letter:
                 self.refuse("text-not-closed", "a text isn't closed on its line", 'put `"` at its end; a line end inside of a text is `\\n`', start, self.at)
             elif letter < " ":
-                self.refuse("control-byte", f"the byte 0x{ord(letter):02x} stands in a text", "write `\\t`" if letter == "\t" else f"write `\\u{ord(letter):04x}`")
+                self.refuse("control-byte", f"a text has the byte 0x{ord(letter):02x}", "write `\\t`" if letter == "\t" else f"write `\\u{ord(letter):04x}`")
             else:
                 parts.append(letter)
                 self.at += 1
@@ -346,6 +346,6 @@ def bare_word(word: str, subject: Subject) -> Tuple[str, ...]:
     if NUMBER.fullmatch(word):
         return "the number is too great", f"no number of a {subject.name} is above {subject.greatest}"
     if re.match(r"[-+.]?\d", word, re.ASCII):
-        return f"{word} is no number of JSON", "a number has decimal digits, as `259`; a text stands in double quotes, as `\"1:3\"`"
+        return f"{word} is no number of JSON", "a number has decimal digits, as `259`; a text is in double quotes, as `\"1:3\"`"
     found = near(word, LITERALS)
-    return f"{word} is no value of JSON", f"write `{found}`, or the text `\"{word}\"`" if found else f'a text stands in double quotes: `"{word}"`'
+    return f"{word} is no value of JSON", f"write `{found}`, or the text `\"{word}\"`" if found else f'a text is in double quotes: `"{word}"`'

@@ -133,7 +133,7 @@ def wrong_form(line, token, operand):
             return f"{operand.called} is in quotes of another kind", f'write `"{text}"`'
         return f"{operand.called} of `{named(line)}` isn't in double quotes", f'write `"{text}"`'
     if line.word == "call":
-        return "a text stands where a call takes an address or a number", OF_CALLS
+        return "this is a text, and a call takes an address or a number", OF_CALLS
     inner = Token(token.text[1:-1], token.start + 1, token.end - 1)
     form = form_of(line)
     if operand.name == "COUNT" and line.word == "w":
@@ -207,7 +207,7 @@ def bad_number(line, token, operand, script):
         if operand is requests.DEV:
             return f"{text} is no number", f"a request has a device as one number, as makedev(3) packs it: `{packed(major, minor)}` is {major}:{minor}"
         if line.word in ("chr", "blk"):
-            return f"{text} is no number", f"the two numbers of a device stand apart: `{major} {minor}`"
+            return f"{text} is no number", f"the two numbers of a device are two words: `{major} {minor}`"
         if line.word == "call":
             return f"{text} is no number", f"a call takes a device as one number, as makedev(3) packs it: `{packed(major, minor)}` is {major}:{minor}"
     if line.word == "call" and "/" in text:
@@ -290,7 +290,7 @@ def is_like_octal(text: str) -> bool:
 def text_out_of_range(line, token, operand):
     if not operand.zeros and b"\0" in token.content:
         hint = "leave out the `\\0` at its end: only the bytes of `poke` need one" if token.content.endswith(b"\0") else "leave it out"
-        return f"a zero byte stands in {operand.name}", hint
+        return f"{operand.name} has a zero byte", hint
     return f"{operand.name} has {len(token.content)} bytes", f"{operand.name} of `{named(line)}` has {operand.least} to {operand.most}"
 
 
@@ -298,9 +298,9 @@ def bad_path(token):
     """What is wrong with a path by itself; None where it is one."""
     content = token.content
     if content.endswith(b"\0"):
-        return "a zero byte stands in the path", "leave out the `\\0` at its end: only the bytes of `poke` need one"
+        return "the path has a zero byte", "leave out the `\\0` at its end: only the bytes of `poke` need one"
     if b"\0" in content:
-        return "a zero byte stands in the path", "leave it out"
+        return "the path has a zero byte", "leave it out"
     if len(content) > MOST_PATH:
         return f"the path has {len(content)} bytes", f"a path has at most {MOST_PATH}"
     text = content.decode("utf-8", "surrogateescape")
@@ -313,7 +313,7 @@ def bad_path(token):
         return "`.` and `..` are no names", "write the path without them"
     if "" in names:
         right = "/" + "/".join(filter(None, names))
-        return "a name of the path is empty", f'write `"{right}"`' if right != "/" else "a path has a name behind each slash"
+        return "a name of the path is empty", f'write `"{right}"`' if right != "/" else "a path has a name after each slash"
     if any(len(name.encode("utf-8", "surrogateescape")) > MOST_NAME for name in names):
         return "a name of the path is too long", f"a name has at most {MOST_NAME} bytes"
     return None
@@ -324,19 +324,19 @@ def unknown_name(line, token, operand, script):
     if operand.kind in ("call", "call name"):
         return unknown_call(line, text)
     if operand.kind in ("via", "shift"):
-        return f"{text} stands in the place of `{operand.kind}`", "behind a mount's data stand `shift`, `via \"PROGRAM\"`, or both in the order `via \"PROGRAM\" shift`"
+        return f"{text} is in the place of `{operand.kind}`", "after a mount's data come `shift`, `via \"PROGRAM\"`, or both in the order `via \"PROGRAM\" shift`"
     if operand.kind == "whom":
         number = f"write `kill pid {text} ..` for a PID. " if text.isdecimal() else meant(text, words.WHOM)
         return f"`kill` knows nobody named {text}", advice(number, f"it is {listed(words.KILL_FORMS, 'or')}")
     if operand.kind == "disposition":
         other = {"SA_RESTART": "restart", "ignore": None, "SIG_DFL": "default", "norestart": "plain"}.get(text)
         return f"{text} is no mode of a handler", advice(f"did you mean `{other}`? " if other else meant(text, words.DISPOSITIONS), f"the modes are {listed(words.DISPOSITIONS)}")
-    return f"only `listener` stands behind `filter`, and not {text}", advice(meant(text, ("listener",)), "write `filter`, or `filter listener` for the one that notifies the broker")
+    return f"only `listener` may follow `filter`, not {text}", advice(meant(text, ("listener",)), "write `filter`, or `filter listener` for the one that notifies the broker")
 
 
 def unknown_call(line, text):
     if text.rstrip(",") in words.CALL_NAMES:
-        return f"{text} is no call that a script names", f"write `{text.rstrip(',')}`: blanks alone stand between names"
+        return f"{text} is no call that a script names", f"write `{text.rstrip(',')}`: only blanks are between names"
     other = words.OTHER_CALLS.get(text)
     hint = f"did you mean `{other}`? " if other else meant(text, words.CALL_NAMES)
     more = "another call is made by its number, as `call 39`"

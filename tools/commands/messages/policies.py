@@ -120,7 +120,7 @@ def unknown_key(at):
         return unknown_at_top(key)
     if at.keys[0] == "config":
         known = [words.PREFIX + it for it in words.SWITCHES + words.LISTS]
-        return f"{key} is no key that the program knows", advice(meant(key, known), f"behind `{words.PREFIX}` stands one of {listed(words.SWITCHES + words.LISTS)}")
+        return f"{key} is no key that the program knows", advice(meant(key, known), f"after `{words.PREFIX}` comes one of {listed(words.SWITCHES + words.LISTS)}")
     if len(at.keys) == 3:
         return unknown_in_rule(at, key)
     return unknown_inside(at, key)
@@ -164,7 +164,7 @@ def unknown_inside(at, key):
 
 
 def top_value(at):
-    cure = 'rules stand in `{"rules": [..]}`' if at.value.kind == "array" else 'it begins with `{` and ends with `}`, as `{"config": {..}}`'
+    cure = 'rules are in `{"rules": [..]}`' if at.value.kind == "array" else 'it begins with `{` and ends with `}`, as `{"config": {..}}`'
     return f"a policy is an object, and this is {said(at.value)}", cure
 
 
@@ -204,7 +204,7 @@ def list_value(at, name):
         if wrong is not None:
             return f'the item "{wrong.strip()}" isn\'t a file system and its program', "write `FILESYSTEM=PROGRAM` for each, with commas between: `ext4=fuse2fs,ntfs=ntfs-3g`"
     if at.has_profile:
-        return "a type of this list stands in `mount.allowed` too", "leave it out of one of the two lists"
+        return "`mount.allowed` has a type of this list too", "leave it out of one of the two lists"
     return wrong_name([part.strip() for it in items if it.strip() for part in (it.split("=") if name == "mount.fuse" else (it,))])
 
 
@@ -232,7 +232,7 @@ def rule(at):
 def rule_name(at):
     form = "a name has 1 to 64 of `a-z`, `0-9`, `.`, `_`, `:` and `-`"
     if at.value is None:
-        return "this rule has no name", 'add `"name": "NAME"`: the report shows it where the rule decides'
+        return "this rule has no name", 'add `"name": "NAME"`: the report shows it if the rule decides'
     if at.value.kind != "string":
         return f"a name is a text, and this is {said(at.value)}", form
     text = at.value.plain
@@ -247,14 +247,14 @@ def rule_name(at):
     wrong = re.search(r"[^a-z0-9._:-]", text)
     if wrong or not text:
         better = re.sub(r"[^a-z0-9._:-]+", "-", text.lower()).strip("-")
-        return f"`{wrong[0]}` may not stand in a name" if wrong else "the name is empty", advice(f"write `{better}`. " if wrong and better else "", form)
+        return f"`{wrong[0]}` may not be in a name" if wrong else "the name is empty", advice(f"write `{better}`. " if wrong and better else "", form)
     return None
 
 
 def unknown_call(text):
     several = re.split(r"[ ,]+", text)
     if len(several) > 1 and all(it in CALL_NAMES for it in several):
-        return "several calls stand in an array, and this is one text", f"write `{json.dumps(several)}`"
+        return "several calls are an array, and this is one text", f"write `{json.dumps(several)}`"
     other = OTHER_CALLS.get(text)
     hint = f"did you mean `{other}`? " if other else meant(text, CALL_NAMES)
     return f"a rule can't name the call {text}", advice(hint, f"the calls are {listed(CALL_NAMES)}")
@@ -423,7 +423,7 @@ def not_json(text):
     """Why a text is no JSON."""
     whole_text = text.whole
     if begins_as_script(whole_text):
-        return text.finding("script", 0, 1, "this looks like a script, and the policy stands first", "give the policy's file first, and then the script's")
+        return text.finding("script", 0, 1, "this looks like a script, and the policy comes first", "give the policy's file first, and then the script's")
     yaml = yaml_line(whole_text)
     if yaml:
         return text.finding("yaml", yaml.start(), yaml.end(), "this is YAML, and a policy is JSON",
@@ -495,7 +495,7 @@ def foreign_keys(data):
         alike = [it for it in known if abs(len(it) - len(written)) <= NEAR_LETTERS and not member.key.startswith(words.PREFIX)]
         found = min(alike, key=lambda it: table.distance(written, it), default=None)
         if found and table.distance(written, found) <= NEAR_LETTERS:
-            yield text.finding("almost-a-key", member.start, member.end, f"{member.key} is no key of LXD's, and says nothing", f"did you mean `{found}`?")
+            yield text.finding("almost-a-key", member.start, member.end, f"{member.key} is no key of LXD's, and is ignored", f"did you mean `{found}`?")
 
 
 def doubled_keys(data):

@@ -97,7 +97,7 @@ def counted(number, what):
 
 def in_pairs(operands):
     """What is wrong with the files of a pod."""
-    return f"one to eight pairs of a policy and a script stand behind the two numbers, not {counted(len(operands) - 2, 'file')}"
+    return f"one to eight pairs of a policy and a script follow the two numbers, not {counted(len(operands) - 2, 'file')}"
 
 
 def least_count(entry):
@@ -117,7 +117,7 @@ def usage(entry, operands, command):
     items = entry["operands"]
     late = next((it for it in operands if it in OPTIONS), None)
     if late:
-        return [form, f"{late} stands first behind {entry['word']}", *filled("help: ", f"write `{command} {entry['word']} {late} ..`")]
+        return [form, f"{late} comes first after {entry['word']}", *filled("help: ", f"write `{command} {entry['word']} {late} ..`")]
     operands, given = parted(entry, operands)
     wrong = next(filter(None, (wrong_operand(*pair) for pair in [*zip(items, operands), *given])), None)
     if wrong is None:

@@ -13,9 +13,9 @@ EVENT = re.compile(r"\d+ (t0(?:\.\d+)*|w\d{1,2}|listener|-) (.*)")
 MOST_WORKER, MOST_OF_A_RUN = 15, 16
 # beginnings of files that aren't the text of one report
 OTHERS = (
-    ("container ", "this is the output of `pod`", "give the report of one container, which stands behind its line `container N`, with that container's policy and script"),
+    ("container ", "this is the output of `pod`", "give the report of one container, which follows its line `container N`, with that container's policy and script"),
     ("explored ", "this is the output of `explore`, and no report", "play one of its schedules, and check what that prints"),
-    ("{", "this looks like JSON", "give the text that the word prints without `json`"),
+    ("{", "this looks like JSON", "give the text that the command prints without `json`"),
     ("yes ", "this is the output of `audit-check`", "give the report that it has checked"),
     ("trail ", "this is the output of `audit-check`", "give the report that it has checked"),
 )
@@ -44,7 +44,7 @@ def where(lines, line):
             number = line - at - 1
             return Where(part, number, f"event {number} of the journal" if part == "journal" else f"line {number + 1} of the {part}")
         at += count + 1
-    return Where("summary", 0, "the summary") if line == at else Where("behind", 0, "a line behind the summary")
+    return Where("summary", 0, "the summary") if line == at else Where("behind", 0, "a line after the summary")
 
 
 def actor_of(line):
@@ -107,7 +107,7 @@ def other_file(text, line):
     """What a file is that isn't a report, where its first line tells; and ledgers behind a report. None of another one."""
     content = text.line(line)
     if content.startswith("handovers "):
-        return Finding("ledgers", line, 0, len(content), "what begins here are the ledgers of `handover`, and no part of the report", "check what stands before this line: `sed '/^handovers /,$d'`")
+        return Finding("ledgers", line, 0, len(content), "here begin the ledgers of `handover`, which are no part of the report", "check the lines before this one: `sed '/^handovers /,$d'`")
     told = next(((words, cure) for begin, words, cure in OTHERS if content.startswith(begin)), None) if line == 1 else None
     return told and Finding("another-file", line, 0, len(content), *told)
 
@@ -122,7 +122,7 @@ def fault_of_form(lines, place, content):
     if place.part == "behind":
         return "nothing may follow the summary"
     if place.number < 0:
-        return "" if HEAD[place.part].fullmatch(content) else f"`{place.part}` and a number of lines should stand here"
+        return "" if HEAD[place.part].fullmatch(content) else f"`{place.part}` and a number of lines should be here"
     if place.part != "journal":
         return ""
     if closes_early(lines, place, content):

@@ -80,7 +80,7 @@ OTHER_WORDS = {
     "write-sysinfo": "plant", "addfd-put": "addfd", "addfd-take": "addfd-result", "addfd_result": "addfd-result", "letgo": "let-go", "let_go": "let-go",
     **{call: f"act {call}" for call in ACTS},
 }
-A_REQUEST = f"behind the worker's number stands a count of steps, or what the worker asks for: {listed([*OF_WORKERS, 'act'], 'or')}"
+A_REQUEST = f"after the worker's number comes a count of steps, or the worker's request: {listed([*OF_WORKERS, 'act'], 'or')}"
 A_KIND = "the lines of one number are either counts, as `w 0 9`, which are steps of this project's own worker, or requests of another broker's, as `w 0 recv`: give one of the two workers another number"
 # a line of a session as the clients write it, and one of a journal
 OF_SESSION, OF_JOURNAL = re.compile(r"[<>]"), re.compile(r"\d+ ([tw])(\d[\d.]*) ")
@@ -111,12 +111,12 @@ def form_of(line):
 
 def unknown_call(token):
     """A word behind `act` that is no call."""
-    return f"{token.text} is no call that a worker makes", advice(meant(token.text.strip('"'), ACTS), f"behind `act` stands {listed(ACTS, 'or')}")
+    return f"{token.text} is no call that a worker makes", advice(meant(token.text.strip('"'), ACTS), f"after `act` comes {listed(ACTS, 'or')}")
 
 
 def no_call():
     """`act` without anything behind it."""
-    return "no call stands behind `act`", f"behind `act` stands {listed(ACTS, 'or')}, as in `{ACTS['mknod'].example}`"
+    return "no call follows `act`", f"after `act` comes {listed(ACTS, 'or')}, as in `{ACTS['mknod'].example}`"
 
 
 def no_count(line):

@@ -147,7 +147,7 @@ def quoted(line: str, start: int) -> Token:
             content.append(int(found[1], 16) if found[1] else ESCAPES[found[2]])
             at = found.end()
         elif letter < " ":
-            raise LineFault(at, at + 1, f"the byte 0x{ord(letter):02x} stands in a quoted text", f"write `\\x{ord(letter):02x}`")
+            raise LineFault(at, at + 1, f"a quoted text has the byte 0x{ord(letter):02x}", f"write `\\x{ord(letter):02x}`")
         else:
             content += letter.encode("utf-8", "surrogateescape")
             at += 1
@@ -159,16 +159,16 @@ def outside_fault(line, at):
     letter = line[at]
     word = line[max(line.rfind(blank, 0, at) for blank in BLANKS) + 1:at]
     if letter == "\\" and word.startswith("'"):
-        return LineFault(at - len(word), len(line.rstrip()), "a text stands in single quotes", "put it into double quotes: single ones are characters like others")
+        return LineFault(at - len(word), len(line.rstrip()), "a text is in single quotes", "put it into double quotes: single ones are characters like others")
     if letter == "\\":
-        return LineFault(at, at + 1, "a backslash stands outside of quotes", "a statement stands on one line; a text with a backslash stands in double quotes, where `\\\\` is one")
+        return LineFault(at, at + 1, "a backslash is outside of quotes", "a statement is one line; a text with a backslash is in double quotes, where `\\\\` is one")
     if letter in TYPOGRAPHIC:
         right = TYPOGRAPHIC[letter]
         what = "a blank that isn't a plain one" if right == " " else f"the character {letter}"
-        return LineFault(at, at + 1, f"{what} stands here", f"write {'a plain blank' if right == ' ' else f'`{right}`'}")
+        return LineFault(at, at + 1, f"{what} is here", f"write {'a plain blank' if right == ' ' else f'`{right}`'}")
     if letter < " " or letter == "\x7f":
-        return LineFault(at, at + 1, f"the byte 0x{ord(letter):02x} stands outside of quotes", "remove it")
-    return LineFault(at, at + 1, f"{letter} isn't ASCII, and stands outside of quotes", "words, names and numbers have visible ASCII characters alone; other text stands in double quotes")
+        return LineFault(at, at + 1, f"the byte 0x{ord(letter):02x} is outside of quotes", "remove it")
+    return LineFault(at, at + 1, f"{letter} isn't ASCII, and is outside of quotes", "words, names and numbers have only visible ASCII characters; other text is in double quotes")
 
 
 def touching(at):

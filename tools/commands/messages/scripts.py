@@ -9,7 +9,7 @@ from tools.commands.messages.script_lines import FILTER, PROGRAM, SCHEDULE, SETT
 FIRST_MAP = ((0x10000, 16),)
 # what is said where the place in the line can't be told, by the reason that the program names (docs/reference/SCRIPT.md, Refusals of a script)
 PLAIN = {
-    "bad byte": "a byte stands here that is no blank and begins no token",
+    "bad byte": "this byte is no blank, and begins no token",
     "bad quote": "a quoted text isn't closed, has a byte or an escape that it may not have, or touches another token",
     "unknown word": "the line begins with a word that a script doesn't have",
     "out of place": "the word belongs to another part of the script",
@@ -20,7 +20,7 @@ PLAIN = {
     "bad path": "the path breaks its rules, its directory isn't stated above, or a line above has the same path",
     "unknown name": "the name of a call, a program or a signal's disposition isn't known, or a word after `kill` or `filter` isn't",
     "duplicate": "this may be stated once, and is stated again",
-    "unmapped": "a byte is stored where no memory is mapped",
+    "unmapped": "a byte is stored in memory that isn't mapped",
     "second listener": "a second filter has the listener",
     "no listener": "`killable` comes before the listener's line",
     "bad filter": "the filter has a fault",
@@ -83,7 +83,7 @@ def of_session(asked):
     """What is wrong with a line of a session, or of a report, in a schedule; None of another line."""
     text, whole = asked.first.text, asked.text.line(asked.number).strip()
     if requests.OF_SESSION.fullmatch(text):
-        return f"`{text}` stands before a line of a session", "a schedule has the requests alone: leave out `> `, and the lines of answers, which begin with `< `"
+        return f"`{text}` is before a line of a session", "a schedule has only the requests: leave out `> `, and the lines of answers, which begin with `< `"
     if text in requests.OF_SESSIONS:
         return f"`{text}` is a request of `step`, and no step", f"leave the line out: {requests.OF_SESSIONS[text]}"
     event = requests.OF_JOURNAL.match(whole)
@@ -96,7 +96,7 @@ def of_session(asked):
 def belongs_to(part, known):
     """A sentence with the words that may stand in a part."""
     names = {SETTINGS: "among the settings", FILTER: "in a filter", PROGRAM: "in a program", SCHEDULE: "in a schedule"}
-    return f"{names[part]} stand {listed(known)}" if part in names else f"behind a program's `end` stand {listed(['prog', 'schedule'])}"
+    return f"{names[part]} are {listed(known)}" if part in names else f"after a program's `end` come {listed(['prog', 'schedule'])}"
 
 
 def out_of_place(asked):
@@ -105,7 +105,7 @@ def out_of_place(asked):
     if word == "end":
         return asked.on_word("no block is open that this `end` could close", "remove it, or open the block by `prog NAME`, `filter` or `schedule` further up")
     if word == "pidmax" and script.part == SETTINGS:
-        return asked.on_word(f"`pidbase` of line {script.named('pidbase')[0].number} stands before it", "put the line `pidmax` before the line `pidbase`")
+        return asked.on_word(f"`pidbase` of line {script.named('pidbase')[0].number} comes before it", "put the line `pidmax` before the line `pidbase`")
     if block is None:
         return misplaced(asked, word, script)
     ended = next((line for line in block.lines if line.word == "exit"), None)
@@ -121,8 +121,8 @@ def out_of_place(asked):
     if part == SETTINGS and block.kind == FILTER:
         return asked.on_word(f"{inside}, and `{word}` is a setting", "put `end` before this line")
     if part == SETTINGS:
-        return asked.on_word(f"{inside}, and `{word}` is a setting", "settings stand before the first program: put the line there")
-    return asked.on_word(f"{inside}, and `{word}` is a line of a {part}", f"put `end` before it if the {block.kind} ends here; a line `{word}` stands inside of a {part}")
+        return asked.on_word(f"{inside}, and `{word}` is a setting", "settings come before the first program: put the line there")
+    return asked.on_word(f"{inside}, and `{word}` is a line of a {part}", f"put `end` before it if the {block.kind} ends here; a line `{word}` is inside of a {part}")
 
 
 def misplaced(asked, word, script):
@@ -197,7 +197,7 @@ def overlapping(asked):
     for other, count, number in ranges(asked.script):
         if start < other + count * operands.PAGE and other < end:
             told = f"these pages end at {end:#x}, and overlap with those of line {number}, {other:#x} to {other + count * operands.PAGE:#x}"
-            return (asked.line.operands[0].start, asked.line.operands[-1].end, told, "mapped ranges don't overlap: begin behind the other one, or map fewer pages")
+            return (asked.line.operands[0].start, asked.line.operands[-1].end, told, "mapped ranges don't overlap: begin after the other one, or map fewer pages")
     return (asked.line.operands[0].start, asked.line.operands[-1].end, f"these pages end at {end:#x}", "a range ends at 2^47 (0x800000000000) at most") if end > operands.END_OF_ADDRESSES else None
 
 
@@ -236,7 +236,7 @@ def unknown_name(asked):
         return asked.at(token, (f"{token.text} is this very program, and can't start itself", "a program starts only programs above it: write one more for the child"))
     below = next((it for it in script_of(asked.text).programs if it.name == token.text and it.opening.number > asked.number), None)
     if below:
-        return asked.at(token, (f"{token.text} stands below, in line {below.opening.number}", "a program starts only programs above it: put that one above this one"))
+        return asked.at(token, (f"{token.text} is below, in line {below.opening.number}", "a program starts only programs above it: put that one above this one"))
     known = f"the only program above is {listed(closed)}" if len(closed) == 1 else f"the programs above are {listed(closed)}" if closed else "put the child's program above this one"
     return asked.at(token, (f"no program above has the name {token.text}", advice(meant(token.text, closed), known)))
 
@@ -250,7 +250,7 @@ def duplicate(asked):
         other = next((it for it in script.named("broker") if number_of(it.operands[0].text) == number_of(line.operands[0].text)), None)
         return other and asked.at(line.operands[0], (f"line {other.number} states the broker's descriptor {line.operands[0].text} already", "state each descriptor once"))
     other = next(iter(script.named(line.word)), None)
-    return other and asked.on_word(f"line {other.number} has `{line.word}` already", "it may stand once: remove one of the two lines")
+    return other and asked.on_word(f"line {other.number} has `{line.word}` already", "it may be there once: remove one of the two lines")
 
 
 def unmapped(asked):
@@ -268,7 +268,7 @@ def unmapped(asked):
     page = at - at % operands.PAGE
     cure = f"store it elsewhere, or add `map {page:#x} 1` to the settings"
     if not stated:
-        cure += ", and `map 0x10000 16` with it: the default holds only where no line `map` stands"
+        cure += ", and `map 0x10000 16` with it: the default holds only if there is no line `map`"
     return asked.at(line.operands[0], (f"nothing is mapped at {at:#x}; mapped is {known}", cure))
 
 
@@ -297,7 +297,7 @@ def too_large(asked):
 
 def not_closed(asked):
     word = asked.line.word
-    return asked.on_word(f"`{word}` opens a block that has no `end`", f"put a line `end` behind the {'last instruction' if word != 'schedule' else 'last line of the schedule'}")
+    return asked.on_word(f"`{word}` opens a block that has no `end`", f"put a line `end` after the {'last instruction' if word != 'schedule' else 'last line of the schedule'}")
 
 
 REASONS = {
@@ -314,7 +314,7 @@ def place_and_words(asked, reason):
     """What the reason means in this line: from where to where, what is wrong, what would be right, and maybe another line."""
     comment = comment_behind(asked.line) if reason in WITH_COMMENTS else None
     if comment:
-        return (comment.start, len(asked.text.line(asked.number).rstrip("\r")), "a comment stands behind a statement", "a comment is a line of its own that begins with `#`: put it above this line")
+        return (comment.start, len(asked.text.line(asked.number).rstrip("\r")), "a comment follows a statement", "a comment is a line of its own that begins with `#`: put it above this line")
     explain = REASONS.get(reason)
     return explain(asked) if explain else None
 
@@ -339,7 +339,7 @@ def finding_of(data, number, reason):
     line = text.line(number)
     first = len(text.whole) - len(text.whole.lstrip())
     if text.whole.startswith("{", first) and number == text.line_of(first):
-        return text.finding("json", first, first + 1, "this looks like JSON, and the script stands second", "give the policy's file first, and then the script's")
+        return text.finding("json", first, first + 1, "this looks like JSON, and the script comes second", "give the policy's file first, and then the script's")
     try:
         asked = Asked(text, number)
         found = place_and_words(asked, reason) if asked.line.tokens else None

@@ -84,7 +84,7 @@ def flags_value(word, call):
         name = re.sub("^(MS_|XATTR_)", "", it.text[is_unset:])
         if name not in FLAGS[call]:
             hint = f"did you mean `{words.OPTIONS_OF_MOUNT[name]}`? " if name in words.OPTIONS_OF_MOUNT and call == "mount" else meant(name, FLAGS[call])
-            raise it.fault(f"{name} is no flag of {call}", advice(hint, f"flags have commas between them, and `{UNSET}` in front of one that isn't set, as `flags=RDONLY,{UNSET}NODEV`"))
+            raise it.fault(f"{name} is no flag of {call}", advice(hint, f"flags have commas between them, and `{UNSET}` before one that isn't set, as `flags=RDONLY,{UNSET}NODEV`"))
         found["none" if is_unset else "all"].append(name)
     return {key: names for key, names in found.items() if names}
 
@@ -144,7 +144,7 @@ class Reader:
     def answer(first, rest):
         verdict, most = VERDICTS[first.text], {"denied": 1, "injected": 3}.get(first.text, 0)
         if len(rest) > most:
-            raise rest[most].fault(f"{rest[most].text} can't stand behind `{first.text}`", f"as in `{EXAMPLE}`")
+            raise rest[most].fault(f"{rest[most].text} can't follow `{first.text}`", f"as in `{EXAMPLE}`")
         if first.text == "denied":
             if not rest:
                 raise first.fault("a call is denied with an error", "name it, as in `denied EPERM`")
@@ -177,7 +177,7 @@ class Reader:
     def no_call(word: Word, before: List[Word]) -> NotUnderstood:
         if before:
             example = {"mount": "source=/dev/sda1", "setxattr": "name=user.mark"}.get(before[0].text, "path=/dev/null")
-            return word.fault(f"{word.text} stands in the place of a condition", f"a condition is written with its name, as `{example}`")
+            return word.fault(f"{word.text} is in the place of a condition", f"a condition is written with its name, as `{example}`")
         other = words.OTHER_CALLS.get(word.text)
         hint = f"did you mean `{other}`? " if other else "" if word.text in words.NOT_NAMED else meant(word.text, words.CALL_NAMES)
         return word.fault(f"{word.text} is no call that a policy names", advice(hint, f"the calls are {listed(words.CALL_NAMES)}"))
@@ -189,13 +189,13 @@ class Reader:
         while self.next is not None:
             word = self.take("a condition")
             if not options.is_option(word):
-                raise word.fault(f"{word.text} stands in the place of a condition", "conditions are written `KEY=VALUE`, and stand behind the calls")
+                raise word.fault(f"{word.text} is in the place of a condition", "conditions are written `KEY=VALUE`, and follow the calls")
             key, value = options.split(word)
             if word.key:
                 value = Word(value.text, value.line, value.start, value.end, True)
             self.check_key(word, key, calls, found)
             if not value.text and not word.key:
-                raise word.fault(f"nothing stands behind `{key}=`", f'an empty text is `{key}=""`')
+                raise word.fault(f"nothing follows `{key}=`", f'an empty text is `{key}=""`')
             found[key] = flags_value(value, calls[0].text) if key == "flags" else VALUES.get(key, text_value)(value)
         return found
 
@@ -205,7 +205,7 @@ class Reader:
         if key not in CONDITIONS:
             raise place.fault(f"there is no condition {key}=", advice(meant(key, CONDITIONS), f"the conditions are {listed(CONDITIONS)}"))
         if key in found:
-            raise place.fault(f"{key}= stands twice on the line", "all conditions have to hold, and each is stated once")
+            raise place.fault(f"{key}= is twice on the line", "all conditions have to hold, and each is stated once")
         other = next((it.text for it in calls if it.text not in CONDITIONS[key].calls), None)
         if other:
             raise place.fault(f"`{key}` isn't for {other}", f"it is for {listed(CONDITIONS[key].calls)}")
@@ -281,7 +281,7 @@ class Checking:
 def of_line(line, said):
     """The result of a line."""
     if said[3]:
-        raise NotUnderstood(line.conditions.fault("no call meets these conditions, so the line says nothing", "leave out a condition, or write one that goes with the others").found)
+        raise NotUnderstood(line.conditions.fault("no call meets these conditions, so the line is about nothing", "leave out a condition, or write one that goes with the others").found)
     comes_to, text = said[1].decode(), line.line.text
     if comes_to == "refuted":
         call, rule = said[4].decode("ascii"), said[5].decode("ascii")

@@ -63,7 +63,7 @@ class Call:
 def text_of(word: Word) -> bytes:
     content = word.content
     if b"\0" in content:
-        raise word.fault("a zero byte stands in the text", "leave it out: a text ends by itself")
+        raise word.fault("the text has a zero byte", "leave it out: a text ends by itself")
     if len(content) >= PAGE:
         raise word.fault(f"the text has {len(content)} bytes", f"a text has at most {PAGE - 1}")
     return content
@@ -94,7 +94,7 @@ def mode_of(word):
         raise word.fault(f"{word.text} is no mode", advice(f"write `0{word.text}`. " if is_near else "", f"a mode is octal and begins with 0, as `{words.USUAL_MODE}`"))
     mode = int(word.text.replace("o", ""), 8)
     if mode > GREATEST_MODE:
-        raise word.fault(f"{word.text} has more than the bits of a mode", "the greatest mode is `07777`; the kind of a node stands in front of it, as `c`")
+        raise word.fault(f"{word.text} has more than the bits of a mode", "the largest mode is `07777`; the kind of a node comes before it, as `c`")
     return mode
 
 
@@ -160,14 +160,14 @@ class Reader:
     def value(self, operand, word):
         if operand.kind in ("path", "text", "value"):
             if word.key:
-                raise word.fault(f"{operand.name} of `{self.name}` stands here, and not {word.key}=", self.written())
+                raise word.fault(f"{operand.name} of `{self.name}` comes here, and not {word.key}=", self.written())
             if OPTION.fullmatch(word.text) and not word.is_quoted:
                 raise word.fault(f"{word.text} is an option of a command, and no operand of a call", self.written())
             return text_of(word)
         if operand.kind == "directory" and not is_directory(word):
-            raise word.fault(f"{operand.name} of `{self.name}` stands here, and not {word.text}", self.written())
+            raise word.fault(f"{operand.name} of `{self.name}` comes here, and not {word.text}", self.written())
         if operand.kind == "device" and NUMBER.fullmatch(word.text) and self.at + 1 < len(self.given) and NUMBER.fullmatch(self.given[self.at + 1].text):
-            raise word.fault("the numbers of a device stand apart", f"write `{word.text}:{self.given[self.at + 1].text}`")
+            raise word.fault("the numbers of a device are two words", f"write `{word.text}:{self.given[self.at + 1].text}`")
         if operand.kind == "flags":
             return flags_of(self.name, word)
         if operand.kind == "data":

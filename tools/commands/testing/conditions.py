@@ -128,7 +128,7 @@ class Reader:
 
     def close(self, opened: Word) -> None:
         if not self.is_next(CLOSE):
-            raise opened.fault("the parenthesis isn't closed", "add `)` behind the part that it holds")
+            raise opened.fault("the parenthesis isn't closed", "add `)` after the part that it holds")
         self.take()
 
     # ---- of an order of steps
@@ -258,7 +258,7 @@ class Reader:
         known = KEYS[key]
         if not value:
             example = {"rule": "no-disks", "via": "fuse2fs"}.get(key)
-            raise word.fault(f"nothing stands behind `{key}=`", f"as in `{key}={example}`" if example else f"it is {listed((f'{key}={it}' for it in known), 'or')}")
+            raise word.fault(f"nothing follows `{key}=`", f"as in `{key}={example}`" if example else f"it is {listed((f'{key}={it}' for it in known), 'or')}")
         if known and value not in known:
             raise word.fault(f"there is no {key} {value}", advice(meant(value, known), f"it is {listed((f'{key}={it}' for it in known), 'or')}"))
         if key == "rule":
@@ -271,16 +271,16 @@ class Reader:
         if word.text == CLOSE:
             return word.fault("nothing is open that `)` closes", "remove it, or open it by `(`")
         if word.text in OPERATORS:
-            return word.fault(f"`{word.text}` has nothing in front of it that it joins", f"as in `{EXAMPLE}`")
+            return word.fault(f"`{word.text}` has nothing before it that it joins", f"as in `{EXAMPLE}`")
         if word.text in (*words.CALL_NAMES, *self.tasks):
-            return word.fault(f"{word.text} stands behind what is said of another call", "write `and` or `or` in front of what is said of a second one")
+            return word.fault(f"{word.text} follows a statement about another call", "write `and` or `or` before the statement about a second one")
         key = word.key or word.text.partition("=")[0]
         if key != word.text:
             return word.fault(f"there is no condition {key}=", advice(meant(key, KEYS), f"it is {listed((f'{it}=' for it in KEYS), 'or')}"))
         near = meant(word.text, (*self.tasks, *words.CALL_NAMES, *PREDICATES, *OPERATORS))
         tasks = f"a task ({some(self.tasks, 'or')}), " if self.tasks else ""
         says = listed((words.DONE, "ended", "0", "EPERM", "granted", "reply=lost"), "or")
-        return word.fault(f"{word.text} says nothing of a call", advice(near, f"a condition names {tasks}a call or a text, and then says {says} and the like"))
+        return word.fault(f"{word.text} states nothing of a call", advice(near, f"a condition names {tasks}a call or a text, and then states {says} and the like"))
 
 
 @dataclass(frozen=True)

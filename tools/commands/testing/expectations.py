@@ -90,7 +90,7 @@ class Reader:
 
     def unexpected(self, word, verdict):
         near = meant(word.text, (BY, OR))
-        return word.fault(f"{word.text} can't stand behind `{verdict}`", advice(near, f"it is `{verdict}`, `{verdict} RESULT`, `{verdict} by RULE` or `{verdict} RESULT by RULE`"))
+        return word.fault(f"{word.text} can't follow `{verdict}`", advice(near, f"it is `{verdict}`, `{verdict} RESULT`, `{verdict} by RULE` or `{verdict} RESULT by RULE`"))
 
     def rule(self) -> str:
         """The name of the rule behind `by`; empty where none is stated."""
@@ -115,7 +115,7 @@ class Reader:
             return Alternative(words.KILLED)
         if word.text == words.AS_TRACED and not word.is_quoted:
             if not self.of_trace:
-                raise word.fault(f"{words.AS_TRACED} is said of a call that isn't one of a trace", "it stands below `traced`; name what this call returns, as `0`")
+                raise word.fault(f"{words.AS_TRACED} is expected of a call that isn't one of a trace", "it belongs below `traced`; name the result of this call, as `0`")
             return Alternative(words.AS_TRACED)
         if word.text not in words.EXPECTED or word.is_quoted:
             raise unknown_expected(word, self.of_trace)
@@ -129,7 +129,7 @@ class Reader:
             found.append(self.alternative())
         if self.next is not None:
             hint = f"write `{BY} {self.next.text}` if it is a rule; " if found[-1].word in words.VERDICTS and not found[-1].rule and not is_result(self.next) else ""
-            raise self.next.fault(f"{self.next.text} can't stand here", f"{hint}alternatives have `or` between them, as in `{ARROW} 0 or killed`")
+            raise self.next.fault(f"{self.next.text} can't be here", f"{hint}alternatives have `or` between them, as in `{ARROW} 0 or killed`")
         return found
 
 
@@ -140,7 +140,7 @@ def unknown_expected(word: Word, of_trace: bool) -> NotUnderstood:
     known = (*words.EXPECTED, words.AS_TRACED) if of_trace else words.EXPECTED
     other = words.OTHER_EXPECTED.get(word.text.lower())
     hint = f"did you mean `{other}`? " if other else meant(word.text, (*known, *ERRORS))
-    return word.fault(f"{word.text} is nothing that comes of a call", advice(hint, f"it is a number, the name of an error, {listed(known, 'or')}"))
+    return word.fault(f"{word.text} isn't a result", advice(hint, f"it is a number, the name of an error, {listed(known, 'or')}"))
 
 
 def expected_of(line, given, text, of_trace=False):

@@ -148,7 +148,7 @@ def split_at_arrow(given):
     at = next((at for at, it in enumerate(given) if it.text == ARROW and not it.is_quoted), None)
     other = next((it for it in given if it.text in OTHER_ARROWS and not it.is_quoted), None)
     if at is None and other is not None:
-        raise other.fault(f"{other.text} stands in place of the arrow", f"write `{ARROW}`")
+        raise other.fault(f"{other.text} is in place of the arrow", f"write `{ARROW}`")
     return (given, None) if at is None else (given[:at], given[at + 1:])
 
 
@@ -262,10 +262,10 @@ class Reader:
         if not line.rest:
             raise missing(line, "the name of a file", f"{line.first.text} {words.EXAMPLES_OF_FILES[line.first.text]}")
         if options.is_option(line.rest[0]) and known and options.split(line.rest[0])[0] in known:
-            raise line.rest[0].fault("an option stands in front of the name of the file", f"write `{line.first.text} {words.EXAMPLES_OF_FILES[line.first.text]} {line.rest[0].text}`")
+            raise line.rest[0].fault("an option comes before the file's name", f"write `{line.first.text} {words.EXAMPLES_OF_FILES[line.first.text]} {line.rest[0].text}`")
         other = next((it for it in line.rest[1:] if not (known and options.is_option(it))), None)
         if other is not None:
-            raise other.fault(f"one file stands behind `{line.first.text}`", "put its name in quotes where it has a blank")
+            raise other.fault(f"one file follows `{line.first.text}`", "put its name in quotes if it has a blank")
         text_of(line.rest[0])
         return line.rest[0]
 
@@ -284,7 +284,7 @@ class Reader:
         if self.policy is None:
             # (it is told once)
             self.policy = line.first
-            raise line.first.fault("no policy stands above", "begin with a line that names the file of one, as `policy policy.json`")
+            raise line.first.fault("no policy is above", "begin with a line that names the file of one, as `policy policy.json`")
 
     def current(self, line):
         """The group of what is tried here."""
@@ -305,7 +305,7 @@ class Reader:
     def container_line(self, line):
         self.container = Container(line)
         if line.rest:
-            raise line.rest[0].fault("nothing stands behind `container`", "its settings and its tasks stand on the lines below")
+            raise line.rest[0].fault("nothing follows `container`", "its settings and its tasks are on the lines below")
         self.current(line).containers.append(self.container)
 
     # ---- lines of a container
@@ -314,7 +314,7 @@ class Reader:
         if self.container is None:
             # (the lines below are read as those of one)
             self.container = Container(line)
-            raise line.first.fault(f"`{line.first.text}` stands outside of a container", "begin one by a line `container`; the lines `policy`, `filter` and `call` end it")
+            raise line.first.fault(f"`{line.first.text}` is outside of a container", "begin one by a line `container`; the lines `policy`, `filter` and `call` end it")
         return self.container
 
     def is_setting(self, line, word):
@@ -325,11 +325,11 @@ class Reader:
 
     def traced_line(self, line):
         if self.traced is not None:
-            raise line.first.fault("a second trace stands in the container", "begin another one by `container`")
+            raise line.first.fault("the container has a second trace", "begin another one by `container`")
         try:
             container = self.within(line)
             if container.tasks:
-                raise line.first.fault("a trace stands behind a task", "it stands in place of a container's tasks: begin another one by `container`")
+                raise line.first.fault("a trace follows a task", "it replaces a container's tasks: begin another one by `container`")
         finally:
             # (the lines below are read as those on its calls, wherever it stands and whatever its file)
             self.container.traced, self.task = Traced(line, line.first, {}), None
@@ -343,7 +343,7 @@ class Reader:
 
     def of_trace(self, line):
         if self.exploring is not None:
-            raise line.first.fault(f"`{line.first.text}` stands below `explore`", f"below it stand {listed(words.CLAIMS)}; put what is expected of calls in front of it")
+            raise line.first.fault(f"`{line.first.text}` is below `explore`", f"below it are {listed(words.CLAIMS)}; put expectations of calls before it")
         named, behind = split_at_arrow(line.words)
         selection = selection_of(line, named)
         if behind is None:
@@ -352,7 +352,7 @@ class Reader:
 
     def task_line(self, line):
         if self.traced is not None:
-            raise line.first.fault("a task stands behind `traced`, which is in the place of all tasks", "begin another container for it by `container`")
+            raise line.first.fault("a task follows `traced`, which replaces all tasks", "begin another container for it by `container`")
         # (the lines below are read as its steps, whatever its name)
         self.task = Task(line, "")
         container = self.within(line)
@@ -361,7 +361,7 @@ class Reader:
         word = line.rest[0]
         self.task.name = word.text
         if len(line.rest) > 1:
-            raise line.rest[1].fault("one name stands behind `task`", "a name has no blanks: write `-` in their place")
+            raise line.rest[1].fault("one name follows `task`", "a name has no blanks: write `-` in their place")
         if not NAME.fullmatch(word.text) or word.is_quoted:
             raise word.fault(f"{word.text} is no name of a task", "a name begins with a letter and has letters, digits, `-`, `_` and `.`")
         if word.text in (*words.CALL_NAMES, *PREDICATES, *OPERATORS, "self", "parent", "pid"):
@@ -369,12 +369,12 @@ class Reader:
         if container.task(word.text):
             raise word.fault(f"there is a task {word.text} above, at line {container.task(word.text).line.number}", "take another name")
         if container.explorings:
-            raise line.first.fault("a task stands behind `explore`", "put all tasks of a container in front of its first `explore`")
+            raise line.first.fault("a task follows `explore`", "put all tasks of a container before its first `explore`")
         container.tasks.append(self.task)
 
     def step(self, line, word):
         if self.exploring is not None:
-            raise line.first.fault(f"`{word}` stands below `explore`", f"below it stand {listed(words.CLAIMS)}; put the steps of tasks in front of it")
+            raise line.first.fault(f"`{word}` is below `explore`", f"below it are {listed(words.CLAIMS)}; put the steps of tasks before it")
         if word in words.CALL_NAMES:
             made, behind = split_at_arrow(line.words)
             call = call_of(line, made, text_between(line, made))
@@ -383,7 +383,7 @@ class Reader:
         else:
             self.task.steps.append(Step(line, word, self.operands_of(line, word)))
         if any(it.word == "exit" for it in self.task.steps[:-1]):
-            raise line.first.fault("a step stands behind `exit`, which ends the task", "remove it, or put `exit` behind it")
+            raise line.first.fault("a step follows `exit`, which ends the task", "remove it, or put `exit` after it")
 
     def operands_of(self, line, word):
         """The words behind one that isn't a call's."""
@@ -410,14 +410,14 @@ class Reader:
     def explore_line(self, line):
         container = self.within(line)
         if not container.tasks and container.traced is None:
-            raise line.first.fault("`explore` stands in front of the container's tasks", "put it behind them")
+            raise line.first.fault("`explore` comes before the container's tasks", "put it after them")
         # (the lines below are read as its claims, whatever its bounds)
         self.exploring = Exploring(line, 0, "0")
         found = {name: self.bound(name, usual) for name, (usual, _, _) in words.BOUNDS.items()}
         for word in line.rest:
             name, equals, value = word.text.partition("=")
             if name not in found or not equals or word.is_quoted:
-                raise word.fault(f"{word.text} is no bound of an exploration", advice(meant(name, found), "it is `explore`, and behind it `workers=N`, `delays=N` or both"))
+                raise word.fault(f"{word.text} is no bound of an exploration", advice(meant(name, found), "it is `explore`, and after it `workers=N`, `delays=N` or both"))
             found[name] = self.bound(name, value, word)
         self.exploring.workers, self.exploring.delays = int(found["workers"]) - 1, found["delays"]
         container.explorings.append(self.exploring)
@@ -433,7 +433,7 @@ class Reader:
 
     def claim_line(self, line):
         if self.exploring is None:
-            raise line.first.fault(f"`{line.first.text}` stands in no exploration", "put a line `explore` in front of it, behind the tasks of a container")
+            raise line.first.fault(f"`{line.first.text}` is in no exploration", "put a line `explore` before it, after the tasks of a container")
         exploring, tasks = self.exploring, self.container.tasks
         if len(line.words) == 1:
             raise missing(line, "a condition", f"{line.first.text} mount done and reply=lost")
@@ -447,27 +447,27 @@ class Reader:
             is_known = word.text in (*words.LINES, *words.CALL_NAMES)
             return word.fault("a line begins with a text in quotes", f"write `{word.text}` without them" if is_known else "a line begins with a bare word, as `call`")
         if self.exploring is not None:
-            known, what = (*words.CLAIMS, words.EXPLORE, *words.LINES), "line behind `explore`"
+            known, what = (*words.CLAIMS, words.EXPLORE, *words.LINES), "line after `explore`"
         elif self.task is not None:
             known, what = (*words.CALL_NAMES, *words.STEPS, words.TASK, words.EXPLORE, *words.LINES), "line of a task"
             if word.text in words.SETTINGS_OF_CONTAINERS:
-                return word.fault(f"`{word.text}` is a setting, and stands behind a task", "put it in front of the container's first task")
+                return word.fault(f"`{word.text}` is a setting, and follows a task", "put it before the container's first task")
         elif self.traced is not None:
-            known, what = (*words.CALL_NAMES, words.LINE_OF_TRACE, words.EVERY, words.EXPLORE, *words.LINES), "line behind `traced`"
+            known, what = (*words.CALL_NAMES, words.LINE_OF_TRACE, words.EVERY, words.EXPLORE, *words.LINES), "line after `traced`"
             if word.text in words.SETTINGS_OF_CONTAINERS:
-                return word.fault(f"`{word.text}` is a setting, and stands behind `traced`", "put it in front of that line")
+                return word.fault(f"`{word.text}` is a setting, and follows `traced`", "put it before that line")
             if word.text in words.STEPS:
                 return word.fault(f"`{word.text}` is a step of a task, and a traced container takes those of the trace", "name calls of the trace, as `mknod /dev/null -> granted`")
         elif self.container is not None:
             known, what = (*words.SETTINGS_OF_CONTAINERS, words.TASK, words.TRACED, *words.LINES), "line of a container"
             if word.text in (*words.CALL_NAMES, *words.STEPS):
-                return word.fault(f"`{word.text}` stands in no task", "begin one by `task main`")
+                return word.fault(f"`{word.text}` is in no task", "begin one by `task main`")
         else:
             known, what = (*words.LINES, *all_calls.SENSES), "line of a test file"
             if word.text in words.CALL_NAMES:
-                return word.fault(f"`{word.text}` stands in no task", f"write `call {word.text} ..` for a call by itself")
+                return word.fault(f"`{word.text}` is in no task", f"write `call {word.text} ..` for a call by itself")
             if word.text in all_calls.SENSES:
-                return word.fault(f"what `{word.text}` says of calls ends with a colon", f"as in `{all_calls.EXAMPLE}`")
+                return word.fault(f"a line `{word.text}` about calls has a colon", f"as in `{all_calls.EXAMPLE}`")
         other = words.OTHER_LINES.get(word.text) or words.OTHER_CALLS.get(word.text)
         hint = f"did you mean `{other}`? " if other in known else meant(word.text, known)
         return word.fault(f"{word.text} begins no {what}", advice(hint, f"it begins with {listed(known, 'or')}"))

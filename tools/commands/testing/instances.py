@@ -83,7 +83,7 @@ class Instances:
         before = [number for number, (start, child) in enumerate(instance.children, 1) if child.task.name == word.text and steps.index(start) < steps.index(step)]
         if before:
             return f"child {before[-1]}"
-        raise word.fault(f"{instance.task.name} hasn't started {word.text} in front of this line" if self.container.task(word.text) else f"there is no task {word.text}",
+        raise word.fault(f"{instance.task.name} hasn't started {word.text} before this line" if self.container.task(word.text) else f"there is no task {word.text}",
                          advice(meant(word.text, self.container.names) if not self.container.task(word.text) else "", "`kill` reaches a task that was started above, `parent` and `self`"))
 
     def overwritten(self, instance, step):

@@ -49,7 +49,7 @@ def filter_lines(folder, filters):
         return profiles.lines_of(path_of(folder, word), data, filters)
     if filters.options:
         name = next(iter(filters.options))
-        raise filters.word_of(name).fault(f"{name}= is for a profile, and {word.text} has filters as a script has them", "leave it out: what a filter answers stands in its lines")
+        raise filters.word_of(name).fault(f"{name}= is for a profile, and {word.text} has filters as a script has them", "leave it out: a filter's lines have its answers")
     forms = "the file is a seccomp profile, or has blocks `filter` and `filter listener`, as `filter-of-profile` and `filter-of-process` write them"
     try:
         found = bpf.read_blocks(text)

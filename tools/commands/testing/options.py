@@ -58,7 +58,7 @@ def kernel(value):
 def processes(value: Word) -> Set[int]:
     for it in parts(value):
         if not NUMBER.fullmatch(it.text):
-            raise it.fault(f"{it.text} is no number of a process", "it is the number that strace prints in front of a line, as `29917`")
+            raise it.fault(f"{it.text} is no number of a process", "it is the number that strace prints before a line, as `29917`")
     return {int(it.text) for it in parts(value)}
 
 
@@ -86,10 +86,10 @@ def read(line, given, known):
     for word in given:
         name, value = split(word)
         if name not in known:
-            raise word.fault(f"`{line.first.text}` has no option {name}=", advice(meant(name, known), f"behind the file may stand {listed(examples)}"))
+            raise word.fault(f"`{line.first.text}` has no option {name}=", advice(meant(name, known), f"after the file may come {listed(examples)}"))
         if name in found:
-            raise word.fault(f"{name}= stands twice", f"name all in one, as `{name}={known[name][1]}`")
+            raise word.fault(f"{name}= is there twice", f"name all in one, as `{name}={known[name][1]}`")
         if not value.text:
-            raise word.fault(f"nothing stands behind {name}=", f"as in `{name}={known[name][1]}`")
+            raise word.fault(f"nothing follows {name}=", f"as in `{name}={known[name][1]}`")
         found[name] = known[name][0](value)
     return found

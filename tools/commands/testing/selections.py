@@ -45,7 +45,7 @@ class AtLine:
             near = sorted(sorted({it.line for it in calls}, key=lambda it: abs(it - self.number))[:MOST_NAMED])
             if why is not None:
                 raise self.word.fault(f"line {self.number} of the trace is no call of the script, which leaves it out: {why}", "the script that `--show` prints has a comment in its place")
-            raise self.word.fault(f"no call of the script stands at line {self.number} of the trace", f"calls near it stand at lines {joined(map(str, near))}" if near else "no call is taken of the trace")
+            raise self.word.fault(f"no call of the script is at line {self.number} of the trace", f"calls near it are at lines {joined(map(str, near))}" if near else "no call is taken of the trace")
         return found
 
 
