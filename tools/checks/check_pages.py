@@ -257,7 +257,7 @@ def words_of_copies(_, room):
     """What is read is shown up to its zero, and a descriptor is put in for a path."""
     first = text_of(f"{TOP}/examples/first/report.txt")
     stale = view_of(first.replace(" 2f6e756c6c\n", " 2f6e756c6c006f6c64\n").encode())["scene"]["words"]
-    yield from told("bytes behind a zero", 'reads "/null" at 0x10000, and 3 bytes behind its zero' in stale, str(stale))
+    yield from told("bytes behind a zero", 'reads "/null" at 0x10000, and 3 bytes after its zero' in stale, str(stale))
     report, _ = judged(room, "puts_and_sends", "one_file")
     scene = view_of(text_of(report).encode())["scene"]
     yield from told("the path of a descriptor", "puts its descriptor 5 into the caller, as /a" in scene["words"], str(scene["words"]))
@@ -606,7 +606,7 @@ def policies_page(browser, address):
         browser.shot(f"compared-dialog-{size.replace(' ', '-')}")
         compared(browser, backups)
         cells = browser.script("return [...document.querySelectorAll('.comparison tbody tr')].map((row) => [...row.children].map((it) => it.textContent))")
-        yield from told(f"compared, {size}", len(cells) == 2 and cells[0][0] == "▲ wider" and cells[0][2:] == ["deny, error=EPERMno-disks", "grantbackups"] and "2 kinds of calls are decided otherwise" in browser.text("#answer"), f"{cells} {browser.text('#answer')}")
+        yield from told(f"compared, {size}", len(cells) == 2 and cells[0][0] == "▲ wider" and cells[0][2:] == ["deny, error=EPERMno-disks", "grantbackups"] and "2 kinds of calls are decided differently" in browser.text("#answer"), f"{cells} {browser.text('#answer')}")
         yield from (f"compared, {size}: {fault}" for fault in browser.layout_faults(False))
         yield from told(f"compared, {size}: nothing stands outside", browser.script("const right = document.querySelector('.comparison').getBoundingClientRect().right; return [...document.querySelectorAll('.comparison, .comparison p, .comparison .wide')].every((it) => it.getBoundingClientRect().right <= right + 1)"))
         browser.script("document.querySelector('#result').scrollIntoView()")

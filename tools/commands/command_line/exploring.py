@@ -97,7 +97,7 @@ def interrupted(found: Smaller, progress: Progress, delays: str) -> int:
     if found.bound is None:
         speaking.say([f"broker: interrupted after {progress.seconds} s; no smaller bound than what was asked for had ended"])
         return INTERRUPTED
-    speaking.say([f"broker: interrupted after {progress.seconds} s, before {asked} had ended; what is printed is bound {found.bound}, the greatest that had"])
+    speaking.say([f"broker: interrupted after {progress.seconds} s, before {asked} had ended; what is printed is bound {found.bound}, the largest that had"])
     sys.stdout.buffer.write(found.output)
     return INTERRUPTED
 

@@ -22,7 +22,7 @@ def counts_at(lines, form):
     *fields, words = lines.take(form, "a line of counts")
     counts = counts_of(words)
     if counts is None:
-        raise NotAReport(lines.at, "other counts should stand here")
+        raise NotAReport(lines.at, "other counts should be here")
     return [*fields, counts]
 
 
@@ -48,7 +48,7 @@ def summary_of(data):
     lines = Lines(data)
     summary, = counts_at(lines, SUMMARY)
     if lines.at < len(lines.lines):
-        raise NotAReport(lines.at + 1, "nothing stands behind the summary")
+        raise NotAReport(lines.at + 1, "nothing may follow the summary")
     return {"summary": summary}
 
 

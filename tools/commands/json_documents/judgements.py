@@ -50,7 +50,7 @@ def broken_of(lines):
     verdict = verdict_of(lines)
     event = event_in(*lines.take(EVENT_LINE, "the event"), lines.at)
     if event["place"] != verdict["place"]:
-        raise NotAReport(lines.at, f"the event at {verdict['place']} should stand here")
+        raise NotAReport(lines.at, f"the event at {verdict['place']} should be here")
     call, = lines.take(CALL_LINE, "the call that it is about")
     call = None if call == NO_CALL else event_in(call, lines.at)
     means, = lines.take(SAID_LINE, "what it means")
@@ -64,7 +64,7 @@ def judgement_of(data):
     lines = Lines(data)
     found = verdict_of(lines) if is_mediated(lines) else broken_of(lines)
     if lines.at < len(lines.lines):
-        raise NotAReport(lines.at + 1, "nothing stands behind the counts")
+        raise NotAReport(lines.at + 1, "nothing may follow the counts")
     return {"judgement": found}
 
 

@@ -44,13 +44,13 @@ def handover_of(data):
     found, first = report_of(report + b"\n"), data.count(b"\n", 0, len(report) + 1) + 1
     count, *lines = behind.decode("ascii").split("\n")
     if not title or lines[-1:] != [""] or count != str(len(lines) - 1):
-        raise NotAReport(first, "'handovers' and as many lines of ledgers should stand here")
+        raise NotAReport(first, "'handovers' and as many lines of ledgers should be here")
     ledgers = []
     for at, line in enumerate(lines[:-1], first + 1):
         try:
             ledgers.append(ledger_of(line))
         except (AttributeError, KeyError, TypeError, ValueError):
-            raise NotAReport(at, "a ledger should stand here") from None
+            raise NotAReport(at, "a ledger should be here") from None
     return {**found, "ledgers": ledgers}
 
 

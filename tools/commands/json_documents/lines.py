@@ -25,7 +25,7 @@ class Lines:
         """The parts of the next line, which has this form."""
         parts = form.fullmatch(self.lines[self.at]) if self.at < len(self.lines) else None
         if parts is None:
-            raise NotAReport(self.at + 1, f"{what} should stand here")
+            raise NotAReport(self.at + 1, f"{what} should be here")
         self.at += 1
         return parts.groups()
 

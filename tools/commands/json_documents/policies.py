@@ -65,7 +65,7 @@ def two_calls(lines, words):
         calls = [CALL.read(words[:at]), CALL.read(words[at + len(" and "):])]
         if None not in calls:
             return calls
-    raise NotAReport(lines.at, "two calls should stand here")
+    raise NotAReport(lines.at, "two calls should be here")
 
 
 def count_of(lines):
@@ -86,7 +86,7 @@ def comparison_of(data):
         while lines.next_is("counts "):
             found["counted"].append(count_of(lines))
     if lines.at < len(lines.lines):
-        raise NotAReport(lines.at + 1, "nothing stands behind the comparison")
+        raise NotAReport(lines.at + 1, "nothing may follow the comparison")
     return found
 
 
@@ -128,7 +128,7 @@ def standings_of(data):
             raise NotAReport(lines.at, "the call has another form")
     counts, = lines.take(CLAIMS_LINE, "how many claims there are")
     if counts != claims_line(claims) or lines.at < len(lines.lines):
-        raise NotAReport(lines.at, "other counts should stand here, at the end")
+        raise NotAReport(lines.at, "other counts should be here, at the end")
     return {"claims": claims}
 
 
@@ -163,7 +163,7 @@ def findings_of(data):
         count, = lines.take(FINDINGS_LINE, "how many findings there are")
         found = [finding_of(lines) for _ in range(int(count))]
     if lines.at < len(lines.lines):
-        raise NotAReport(lines.at + 1, "nothing stands behind the findings")
+        raise NotAReport(lines.at + 1, "nothing may follow the findings")
     return {"findings": found}
 
 

@@ -8,7 +8,7 @@ class Comparison {
   constructor(root, { changes, counted, whole, classes, counts }) {
     const left = classes + counts - changes.length - counted.length;
     this.section = make("section", { class: "comparison", tabindex: "-1", "aria-label": "Comparison of two policies" },
-      make("p", {}, `${countedKinds(classes)} decided otherwise${whole ? "" : ", as far as calls were looked at"}. The other policy is the old one, and the one above the new one.`),
+      make("p", {}, `${countedKinds(classes)} decided differently${whole ? "" : ", as far as calls were looked at"}. The other policy is the old one, and the one above the new one.`),
       changes.length ? this.table(changes) : null,
       counted.length ? make("p", {}, "Of these calls one policy counts two together, by one rule with times, and the other counts them apart:") : null,
       counted.length ? this.counts(counted) : null,

@@ -23,7 +23,7 @@ class Copied:
         content = bytes.fromhex(data)
         self.reads.append((at, length, content))
         text, _, behind = (content, b"", b"") if self.is_value(at) else content.partition(b"\0")
-        more = f", and {len(behind)} bytes behind its zero" if behind.strip(b"\0") else ""
+        more = f", and {len(behind)} bytes after its zero" if behind.strip(b"\0") else ""
         self.told.append([place, address(at), length, bytes_text(text)])
         return f"reads {short_text(text[:LONGEST_TOLD].hex())}{' and more' if len(text) > LONGEST_TOLD else ''} at {address(at)}{more}"
 

@@ -32,7 +32,7 @@ def call_line(trail):
     events = [*events_of(trail), None, None]
     entered, received = events[:2]
     if entered is None or received is None or (entered.word, received.word) != ("call", "recv") or entered.fields[2] != f"notify id={received.fields[0]}":
-        raise NotExplained("This is no trail of a call: the call and its receive should stand first.")
+        raise NotExplained("This is no trail of a call: the call and its receive should come first.")
     name, numbers, _ = entered.fields
     request = request_read(events[2:-2], received.actor, CALLS.get(name) or int(name), tuple(map(int, numbers.split())))
     if isinstance(request, Mknod) and request.device >= 2**32:

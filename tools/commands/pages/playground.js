@@ -254,7 +254,7 @@ class Playground {
     this.shown = new Comparison(by("result"), told.comparison);
     by("save-report").disabled = false;
     by("save-picture").disabled = document.querySelector('[data-form="audit-check"]').disabled = true;
-    return this.tell("good", make("p", {}, `Compared: ${countedKinds(classes)} decided otherwise${counts ? `, and ${counted(counts, "pair")} of calls counted otherwise` : ""}.`), make("button", { type: "button", class: "small", onclick: () => this.look() }, "See the calls"));
+    return this.tell("good", make("p", {}, `Compared: ${countedKinds(classes)} decided differently${counts ? `, and ${counted(counts, "pair")} of calls counted differently` : ""}.`), make("button", { type: "button", class: "small", onclick: () => this.look() }, "See the calls"));
   }
 
   // ---- why a rule decides, and steps one by one

@@ -92,7 +92,7 @@ def lines_of(data: bytes, most: int) -> List[str]:
     try:
         text = data.decode("ascii")
     except UnicodeDecodeError as fault:
-        raise NotAReport(data.count(b"\n", 0, fault.start) + 1, "a byte that stands in no report") from None
+        raise NotAReport(data.count(b"\n", 0, fault.start) + 1, "a byte that no report has") from None
     if "\r\n" in text:
         raise NotAReport(text[:text.index("\r\n")].count("\n") + 1, f"{CR_LF}: {LF_ALONE}")
     lines = text.split("\n")
@@ -105,7 +105,7 @@ def part(lines, at, name, form):
     """The fields of each line of a part that begins at this line, and the line behind it."""
     head = re.fullmatch(rf"{name} ({NUMBER})", lines[at]) if at < len(lines) else None
     if head is None:
-        raise NotAReport(at + 1, f"'{name}' and a number of lines should stand here")
+        raise NotAReport(at + 1, f"'{name}' and a number of lines should be here")
     end = at + 1 + int(head.group(1))
     if end > len(lines):
         raise NotAReport(len(lines) + 1, f"'{name}' says {head.group(1)} lines, and there are {len(lines) - at - 1} below it")
@@ -122,7 +122,7 @@ def event_of(line, place):
     """The event of a journal's line."""
     words = line.split(" ", 3)
     if len(words) < 3 or words[0] != str(place):
-        raise ValueError(f"event {place} should stand here")
+        raise ValueError(f"event {place} should be here")
     _, actor, word, *rest = words
     if not ACTOR.fullmatch(actor):
         raise ValueError(f"no actor has the name {actor[:40]!r}")
@@ -189,7 +189,7 @@ def read(data: bytes, most: int = LIMIT) -> Report:
     audit, at = listed_audit(lines, at, events)
     counts = SUMMARY.fullmatch(lines[at]) if at < len(lines) else None
     if counts is None:
-        raise NotAReport(at + 1, "the summary should stand here")
+        raise NotAReport(at + 1, "the summary should be here")
     if at + 1 < len(lines):
-        raise NotAReport(at + 2, "nothing stands behind the summary")
+        raise NotAReport(at + 2, "nothing may follow the summary")
     return Report(lines, events, calls, audit, dict(zip(COUNTED, map(int, counts.groups()))))

@@ -47,12 +47,12 @@ def handover_view(data):
     first = len(found.lines) + 1
     counted = TITLE.fullmatch(lines[0])
     if counted is None or int(counted[1]) != len(lines) - 1:
-        raise NotAReport(first, f"'handovers' and the number of the {len(lines) - 1} lines below should stand here")
+        raise NotAReport(first, f"'handovers' and the number of the {len(lines) - 1} lines below should be here")
     scene = scene_of(found)
     for number, line in enumerate(lines[1:], first + 1):
         ledger = LEDGER.fullmatch(line)
         if ledger is None or int(ledger[1]) >= len(found.events) or found.events[int(ledger[1])].actor != ledger[2]:
-            raise NotAReport(number, "a ledger of a worker should stand here, with the place of the worker's last step")
+            raise NotAReport(number, "a ledger of a worker should be here, with the place of the worker's last step")
         scene["notes"].append(["replaced", int(ledger[1])])
         scene["tags"].append([int(ledger[1]), "odd", f"worker {ledger[2][1:]} is replaced", None])
     return {"kind": "handover", "scene": {**scene, "lines": [*found.lines, *lines]}}
@@ -77,7 +77,7 @@ def pod_view(data):
         at += report.count(b"\n") + 1
     sums = re.fullmatch(r"pod containers=(\d+) (.*)", last.decode("ascii").rstrip("\n"))
     if sums is None or int(sums[1]) != len(scenes):
-        raise NotAReport(len(lines), f"the sums of {len(scenes)} containers should stand here")
+        raise NotAReport(len(lines), f"the sums of {len(scenes)} containers should be here")
     return {"kind": "pod", "scenes": scenes, "sums": sums[2]}
 
 
