@@ -3,7 +3,8 @@
     tools/checks/check-links [DOCUMENT ..]
 
 Without words it checks every .md file that git knows, or that is there where this is no git checkout. Links to other hosts aren't followed.
-It then also checks that links lead from README to each document, and that tools/README.md has each program, file and folder of tools/ and bench/, and no other.
+It then also checks that links lead from README to each document, that tools/README.md has each program, file and folder of tools/ and bench/, and no other, and that each file
+that a page for contributors names by its path is there, as do the rows of RECIPES, in which a name without a folder stands for one of the folder named last.
 
 Exit status: 0 if all links lead somewhere, each document is reached and that page is whole, else 1. The last line is `links: N passed, N failed`.
 """
@@ -23,6 +24,7 @@ FENCED = re.compile(r"^(```+|~~~+).*?^\1\s*$", re.M | re.S)
 CODE = re.compile(r"(`+)(?!`).+?(?<!`)\1(?!`)", re.S)
 LINK = re.compile(r"\[(?:[^\[\]]|\[[^\]]*\])*\]\(<?([^()\s<>]+)>?(?:\s+\"[^\"]*\")?\)")
 REFERENCE = re.compile(r"^ {0,3}\[[^\]]+\]:\s+<?(\S+?)>?(?:\s|$)", re.M)
+PATH, NAME = re.compile(r"`((?:crates|tools|docs|tests|cases|examples|lib|include|bench|mistakes|\.ci)/[\w./-]*\w)`"), re.compile(r"`([^`]+)`")
 HEADING = re.compile(r"^#{1,6}\s+(.*?)\s*#*\s*$", re.M)
 
 
@@ -95,11 +97,28 @@ def rows_of_tools():
         yield page, name, "isn't on the page" if name not in stated else "isn't there" if name not in there else None
 
 
+def paths_of_contributors():
+    """Each path that a page for contributors has, with what is wrong with it."""
+    for page in (it for it in documents() if it.parent == TOP / "docs/inside" or it.name == "CONTRIBUTING.md"):
+        yield from ((page, path, None if (TOP / path).exists() else "isn't there") for path in PATH.findall(text_of(page)))
+
+
+def files_of_recipes():
+    """Each file in the first cells of RECIPES, with what is wrong with it."""
+    page = TOP / "docs/inside/RECIPES.md"
+    for row in (it for it in page.read_text(encoding="utf-8").split("\n") if it.startswith("| `")):
+        folder = TOP
+        for name in NAME.findall(row.split(" | ")[0]):
+            path = (TOP if (TOP / name.split("/")[0]).exists() else folder) / name
+            folder = path if path.is_dir() else path.parent
+            yield page, name, None if path.exists() or "." not in path.name else "isn't there"
+
+
 def main() -> bool:
     parser = ToolParser()
     parser.add_argument("names", metavar="DOCUMENT", nargs="*")
     asked = parser.parse_args()
     names = asked.names
     tried = [(path, link, fault(path, link)) for path in ([Path(name).resolve() for name in names] or documents()) for link in links(path)]
-    tried += [] if names else [*reached_from_readme(), *rows_of_tools()]
+    tried += [] if names else [*reached_from_readme(), *rows_of_tools(), *paths_of_contributors(), *files_of_recipes()]
     return Tally("links").note_all((f"{path.relative_to(TOP)}", why and f"{link} {why}") for path, link, why in tried).ended()

@@ -6,7 +6,8 @@ from typing import Dict, List
 
 from tools.commands.messages.calls import USAGE
 from tools.commands.real_workloads.script_text import CALLS
-from tools.upkeep.tables.page import TOP, rows
+from tools.commands.command_line.top import TOP
+from tools.upkeep.tables.page import rows
 
 SOURCE = "crates/call_table/specs/Table.antt"
 ROW, BARE = re.compile(r"^(\w+)_row = record \{\n(.*?)^\}", re.M | re.S), re.compile(r"bare nr_(\w+)")
