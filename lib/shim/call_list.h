@@ -12,7 +12,7 @@ CALL(epoll_create, PASS, "", 0) CALL(epoll_create1, PASS, "", 0)
 GROUP("The filter", "a filter with a listener: it isn't installed, and the listener is given; the sizes of structures", "other filters, for the process itself", "")
 CALL(seccomp, OWN, "", 0)
 
-GROUP("Opening", "of `/proc/PID`: `mem`, `root`, `cwd`, `fd/N`, `ns/mnt`, `status`, `stat`, `comm`, `task`, and the folder itself", "reading other files; writing those of the run", "other files of `/proc/PID`; what stands in the tree, but with O_PATH; writing elsewhere")
+GROUP("Opening", "of `/proc/PID`: `mem`, `root`, `cwd`, `fd/N`, `ns/mnt`, `status`, `stat`, `comm`, `task`, and the folder itself", "reading other files; writing those of the run", "other files of `/proc/PID`; files of the tree, except with O_PATH; writing elsewhere")
 CALL(open, OWN, "", 0) CALL(openat, OWN, "", 0) CALL(openat2, OWN, "", 0) CALL(creat, LOOK, "w", 1)
 
 GROUP("Reading and writing", "reads of a memory, and `pwrite` of a `struct sysinfo`; the list of a task's threads", "all other descriptors", "other writes to a memory; a descriptor of a task in any other call")
@@ -32,7 +32,7 @@ CALL(inotify_init, PASS, "", 0) CALL(inotify_init1, PASS, "", 0) CALL(inotify_ad
 GROUP("Effects in the tree", "`mknod`, `mount` and `setxattr` below a task's root, from its folders, behind `setns`, and with `--same-root` anywhere", "pipes, sockets and files of the run", "devices and mounts elsewhere; from another folder than the last one that was opened")
 CALL(mknod, OWN, "", 1) CALL(mknodat, OWN, "", 1) CALL(mount, OWN, "", 1) CALL(setxattr, OWN, "", 1)
 
-GROUP("Questions about the tree", "the kind, the device and the node's number of what stands below a task's root; its file system, without type and sizes", "other files", "access by owner and mode, and attributes of such a node")
+GROUP("Questions about the tree", "the kind, the device and the number of a node below a task's root; its file system, without type and sizes", "other files", "access by owner and mode, and attributes of such a node")
 CALL(stat, OWN, "", 0) CALL(lstat, OWN, "", 0) CALL(fstat, OWN, "", 0) CALL(newfstatat, OWN, "", 0) CALL(statx, OWN, "", 0)
 CALL(access, OWN, "", 0) CALL(faccessat, OWN, "", 0) CALL(faccessat2, OWN, "", 0) CALL(readlink, OWN, "", 0) CALL(readlinkat, OWN, "", 0)
 CALL(statfs, OWN, "", 0) CALL(fstatfs, OWN, "f", 0) CALL(getxattr, LOOK, "r", 0) CALL(lgetxattr, LOOK, "r", 0) CALL(fgetxattr, LOOK, "f", 0)

@@ -6,4 +6,5 @@ from tools.upkeep.tables.page import rows
 
 
 def differences() -> str:
-    return rows(("name", "cause"), [(f"`{name}`", text or "a known difference of the simulated kernel, see [LINUX](../LINUX.md)") for name, text in CLASSES.items()])
+    known = ", ".join(f"`{name}`" for name, text in CLASSES.items() if not text)
+    return rows(("name", "cause"), [*((f"`{name}`", text) for name, text in CLASSES.items() if text), (known, "Known differences of the simulated kernel from Linux: see [LINUX](../LINUX.md).")])
