@@ -58,7 +58,7 @@ def main():
     print("\n".join(table([HEADS, *map(row, chosen)])))
     found = Counter(made.difference for made in calls if made.difference)
     differ = sum(found.values())
-    print(f"\n{len(calls)} calls, {len(calls) - differ} answered as in the trace, {differ} otherwise; {script.left_out} left out with a line in their place")
+    print(f"\n{len(calls)} calls, {len(calls) - differ} answered as in the trace, {differ} differently; {script.left_out} left out with a line in their place")
     if found:
-        print("\n".join(["", *table([("difference", "calls", "what it comes from"), *((name, str(count), difference_texts.text_of_class(name)) for name, count in found.most_common())])]))
+        print("\n".join(["", *table([("difference", "calls", "cause"), *((name, str(count), difference_texts.text_of_class(name)) for name, count in found.most_common())])]))
     return "?" in found
