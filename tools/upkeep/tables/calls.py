@@ -4,9 +4,9 @@ from __future__ import annotations
 import re
 from typing import Dict, List
 
+from tools.commands.command_line.top import TOP
 from tools.commands.messages.calls import USAGE
 from tools.commands.real_workloads.script_text import CALLS
-from tools.commands.command_line.top import TOP
 from tools.upkeep.tables.page import rows
 
 SOURCE = "crates/call_table/specs/Table.antt"
