@@ -204,6 +204,8 @@ class WorkerEvents:
         if came == "EDQUOT":
             return  # the policy's own limit
         if request[0] in ("mount", "setxattr") and not self.goes_to_base(worker, request[2 if request[0] == "mount" else 1]):
+            if came == "ok":
+                self.differs(f"effect of {request[0]}", "no directory to begin at", came)
             return
         act = {"mknod": self.mknod, "mknodat": self.mknod, "mount": self.mount, "setxattr": self.setxattr}[request[0]]
         result = act(worker, request)
