@@ -7,20 +7,10 @@ from tools.commands.linux_stage.folders import Pair
 from tools.references.stepping import drawn, policies, scripts
 from tools.references.stepping.sessions import Session
 
-AREAS = {
-    "arguments": drawn_files.arguments,
-    "cuts": drawn_orders.cuts,
-    "descriptors": drawn_files.descriptors,
-    "filters": drawn_orders.filters,
-    "memory": drawn_files.memory,
-    "mounts": drawn_files.mounts,
-    "paths": drawn_files.paths,
-    "plain-mounts": drawn_files.plain_mounts,
-    "plain-paths": drawn_files.plain_paths,
-    "races": drawn_orders.races,
-    "rewrites": drawn_orders.rewrites,
-    "signals": drawn_orders.signals,
-}
+AREAS = {draw.__name__.replace("_", "-"): draw for draw in (
+    drawn_files.arguments, drawn_orders.cuts, drawn_files.descriptors, drawn_orders.filters, drawn_files.memory, drawn_files.mounts, drawn_files.paths,
+    drawn_files.plain_mounts, drawn_files.plain_paths, drawn_orders.races, drawn_orders.rewrites, drawn_orders.signals,
+)}
 # another broker's requests, drawn over the scripts of the others
 REQUESTS = "requests"
 BASES = ("races", "signals", "descriptors", "cuts", "paths", "memory", "arguments", "mounts")

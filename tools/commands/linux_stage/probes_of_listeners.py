@@ -3,12 +3,11 @@ from __future__ import annotations
 
 import os
 import signal
-import struct
 import time
 from typing import TYPE_CHECKING, Any, Tuple
 
 from tools.commands.linux_stage import machine
-from tools.commands.linux_stage.machine import ADD_DESCRIPTOR, AND_SEND, CONTINUE, ID_VALID, RECEIVE, SEND, SET_NUMBER, answer
+from tools.commands.linux_stage.machine import ADD_DESCRIPTOR, AND_SEND, CONTINUE, ID, ID_VALID, NOTIFICATION, RECEIVE, REPLY, REQUEST, SEND, SET_NUMBER, answer
 from tools.commands.linux_stage.play import Play
 from tools.commands.linux_stage.stage import LISTENER, Stage
 from tools.commands.linux_stage.stand_in import Order
@@ -54,28 +53,28 @@ class Scene:
         self.task.order(Order.HANDLE, number, mode)
         self.task.settle()
 
-    def ioctl(self, number: int, size: int, data: bytes, worker: int = 0) -> str:
+    def ioctl(self, number: int, data: bytes, worker: int = 0) -> str:
         stand_in = self.stage.workers[worker]
-        state = self.workers.ioctl(stand_in, number, size, data)
+        state = self.workers.ioctl(stand_in, number, data)
         return answer(stand_in.result()) if state == "idle" else "waits"
 
     def receive(self, worker: int = 0, buffer: bytes = b"") -> str:
         stand_in = self.stage.workers[worker]
-        came = self.ioctl(RECEIVE, 80, buffer, worker)
+        came = self.ioctl(RECEIVE, buffer, worker)
         if came == "waits":
             self.workers.leave_receive(stand_in)
         elif came == "0":
-            self.id = struct.unpack("<Q", stand_in.get(8))[0]
+            self.id = ID.unpack(stand_in.get(ID.size))[0]
         return came
 
     def send(self, name: int, value: int = 0, error: int = 0, flags: int = 0, worker: int = 0) -> str:
-        return self.ioctl(SEND, 24, struct.pack("<QqiI", name, value, error, flags), worker)
+        return self.ioctl(SEND, REPLY.pack(name, value, error, flags), worker)
 
     def valid(self, name: int) -> str:
-        return self.ioctl(ID_VALID, 8, struct.pack("<Q", name))
+        return self.ioctl(ID_VALID, ID.pack(name))
 
     def add(self, name: int, flags: int = 0, source: int = 5, number: int = 0, number_flags: int = 0, worker: int = 0) -> str:
-        return self.ioctl(ADD_DESCRIPTOR, 24, struct.pack("<QIIII", name, flags, source, number, number_flags), worker)
+        return self.ioctl(ADD_DESCRIPTOR, REQUEST.pack(name, flags, source, number, number_flags), worker)
 
     def taken(self, worker: int) -> str:
         """What came of a request of a worker."""
@@ -119,7 +118,7 @@ def of_listener(bench: Bench, note: Note, killable: bool) -> None:
 def receives(scene: Scene, note: Note) -> None:
     note("RECV where nothing is listed", scene.receive(), "waits")
     scene.call()
-    for at in range(80):
+    for at in range(NOTIFICATION.size):
         note(f"RECV into a buffer whose byte {at} isn't 0", scene.receive(buffer=bytes(at) + b"\1"), "EINVAL")
     for name in UNKNOWN_IDS:
         note(f"ID_VALID of {name}", scene.valid(name), "ENOENT")

@@ -34,11 +34,6 @@ OWN_NOTIFIED = 0x0FFFFFFF  # the number of no call
 SIGNALS = (signal.SIGUSR1, signal.SIGUSR2, signal.SIGTERM)
 
 
-def device(major: int, minor: int) -> int:
-    """A device's number as mknod(2) takes it."""
-    return (minor & 0xFF) | (major << 8) | ((minor & ~0xFF) << 12)
-
-
 def make_node(path: bytes, node: Node) -> None:
     if node.kind == "dir":
         os.mkdir(path, 0o777)
@@ -248,11 +243,11 @@ class Stage:
         """The id of a notified call of the stand-in's own. The ids behind it are those of the script's calls."""
         task.order(Order.OWN_CALL, OWN_NOTIFIED)
         task.settle()
-        self.broker.own_call(machine.IOCTL, LISTENER, machine.RECEIVE, self.broker.put(bytes(80)))
-        found = self.broker.get(8)
-        self.broker.own_call(machine.IOCTL, LISTENER, machine.SEND, self.broker.put(found.ljust(24, b"\0")))
+        self.broker.own_call(machine.IOCTL, LISTENER, machine.RECEIVE, self.broker.put(bytes(machine.NOTIFICATION.size)))
+        found = self.broker.get(machine.ID.size)
+        self.broker.own_call(machine.IOCTL, LISTENER, machine.SEND, self.broker.put(found.ljust(machine.REPLY.size, b"\0")))
         task.settle()
-        return struct.unpack("<Q", found)[0]
+        return machine.ID.unpack(found)[0]
 
     def take_listener(self, task: Task, listener: int) -> None:
         held = self.broker.own_call(machine.PIDFD_OPEN, task.pid, 0)

@@ -2,16 +2,15 @@
 from __future__ import annotations
 
 import os
-import struct
 from dataclasses import dataclass
 from typing import Any, List, Optional
 
 from tools.commands.linux_stage import machine
 from tools.commands.linux_stage.journal import HANDS, Event
 from tools.commands.linux_stage.known import OTHER_ACTS, mount_flags
-from tools.commands.linux_stage.machine import ADD_DESCRIPTOR, AND_SEND, CONTINUE, ID_VALID, IOCTL, KINDS, RECEIVE, SEND, answer
+from tools.commands.linux_stage.machine import ADD_DESCRIPTOR, AND_SEND, CONTINUE, ID, ID_VALID, IOCTL, KINDS, NOTIFICATION, RECEIVE, REPLY, REQUEST, SEND, answer
 from tools.commands.linux_stage.script_text import has_listener
-from tools.commands.linux_stage.stage import FIRST_OF_WORKERS, LISTENER, PROC, device
+from tools.commands.linux_stage.stage import FIRST_OF_WORKERS, LISTENER, PROC
 from tools.commands.linux_stage.stand_in import SECOND_TEXT, THIRD_TEXT, Order, Worker
 from tools.commands.real_workloads.bpf import X86_64
 from tools.commands.real_workloads.script_text import CALLS, tokens
@@ -50,8 +49,9 @@ class WorkerEvents:
 
     # ---- the listener
 
-    def ioctl(self, worker: Worker, number: int, size: int, data: bytes) -> str:
-        worker.put(data.ljust(size, b"\0"))
+    def ioctl(self, worker: Worker, number: int, data: bytes) -> str:
+        """Makes a request to the listener, whose number has the size of its structure."""
+        worker.put(data.ljust(number >> 16 & 0x3FFF, b"\0"))
         worker.order(Order.OWN_CALL, IOCTL, LISTENER, number, worker.put(b""))
         return worker.settle(0.005)
 
@@ -68,14 +68,14 @@ class WorkerEvents:
 
     def compare_waiting(self, worker: Worker) -> None:
         """A worker that has nothing to receive waits in the receive."""
-        if self.ioctl(worker, RECEIVE, 80, b"") == "idle":
+        if self.ioctl(worker, RECEIVE, b"") == "idle":
             self.differs("receive", "a notification" if worker.result() == 0 else answer(worker.result()), "waits")
             return
         self.leave_receive(worker)
         self.same("receive that waits", answer(worker.result()), "EINTR")
 
     def do_recv(self, worker: Worker, came: str, pid: Optional[str] = None) -> None:
-        if self.ioctl(worker, RECEIVE, 80, b"") != "idle":
+        if self.ioctl(worker, RECEIVE, b"") != "idle":
             self.leave_receive(worker)
             self.differs("receive", "waits", came)
         result = worker.result()
@@ -87,8 +87,7 @@ class WorkerEvents:
         self.compare_notification(worker, int(came.removeprefix("id=")), pid)
 
     def compare_notification(self, worker: Worker, stated: int, pid: str) -> None:
-        got_id, got_pid, flags, number, architecture, _ = struct.unpack_from("<QIIiIQ", worker.get(80))
-        arguments = list(struct.unpack_from("<6Q", worker.get(80), 32))
+        got_id, got_pid, flags, number, architecture, _, *arguments = NOTIFICATION.unpack(worker.get(NOTIFICATION.size))
         self.same("id", got_id, self.play.real_id(stated))
         got_pid = self.stage.number_of(got_pid)
         self.same("PID", f"pid={got_pid}", pid)
@@ -97,7 +96,7 @@ class WorkerEvents:
         worker.caller, worker.notification = got_pid, stated
 
     def do_check(self, worker: Worker, stated: str, came: str) -> None:
-        self.ioctl(worker, ID_VALID, 8, struct.pack("<Q", self.play.real_id(int(stated))))
+        self.ioctl(worker, ID_VALID, ID.pack(self.play.real_id(int(stated))))
         self.same("check", "ok" if worker.result() == 0 else answer(worker.result()), came)
 
     def do_send(self, worker: Worker, stated: str, back: str, came: str) -> None:
@@ -108,7 +107,7 @@ class WorkerEvents:
             value = int(back)
         else:
             error = -machine.error_number(back)
-        self.ioctl(worker, SEND, 24, struct.pack("<QqiI", self.play.real_id(int(stated)), value, error, flags))
+        self.ioctl(worker, SEND, REPLY.pack(self.play.real_id(int(stated)), value, error, flags))
         self.same("send", "ok" if worker.result() == 0 else answer(worker.result()), came)
 
     def do_addfd_put(self, worker: Worker, *fields: str) -> None:
@@ -116,8 +115,8 @@ class WorkerEvents:
         *stated, came = fields
         asked, hand = self.play.step.put.asked, self.stage.worker(HANDS + worker.seat)
         self.same("fields of the request", " ".join(stated), asked_text(asked))
-        data = struct.pack("<QIIII", self.play.real_id(asked.id), asked.flags, asked.srcfd, asked.newfd, asked.newfd_flags)
-        state = self.ioctl(hand, ADD_DESCRIPTOR, 24, data)
+        data = REQUEST.pack(self.play.real_id(asked.id), asked.flags, asked.srcfd, asked.newfd, asked.newfd_flags)
+        state = self.ioctl(hand, ADD_DESCRIPTOR, data)
         if state != "idle":
             worker.request = Request(hand, asked.id, bool(asked.flags & AND_SEND))
             self.play.requests.append(worker.request)
@@ -225,7 +224,7 @@ class WorkerEvents:
         base = worker.base
         if base is None:
             base = -100 if path.startswith(b"/") else NO_BASE
-        made = device(*map(int, numbers[0].split(":"))) if numbers else 0
+        made = os.makedev(*map(int, numbers[0].split(":"))) if numbers else 0
         return worker.own_call(CALLS["mknodat"], base, worker.put(path + b"\0"), KINDS[kind] | 0o666, made)
 
     def mount(self, worker: Worker, request: List[Any]) -> int:
