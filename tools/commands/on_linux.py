@@ -32,7 +32,7 @@ def words() -> Namespace:
     return parser.parse_args()
 
 
-def compare_drawn(bench, asked):
+def compare_drawn(bench: comparison.Bench, asked: Namespace) -> int:
     outcome = Outcome(ALL if asked.verbose else NOT_KNOWN)
     try:
         take_drawn(bench, asked, outcome)
@@ -42,7 +42,7 @@ def compare_drawn(bench, asked):
     return outcome.told()
 
 
-def take_drawn(bench, asked, outcome):
+def take_drawn(bench: comparison.Bench, asked: Namespace, outcome: Outcome) -> None:
     chosen = list(areas.NAMES) if asked.draw == "all" else [asked.draw]
     for at in range(asked.first, asked.first + asked.count):
         area = chosen[at % len(chosen)]
@@ -51,7 +51,7 @@ def take_drawn(bench, asked, outcome):
             outcome.take(f"{pair.name}{way.said}", comparison.compare(bench, pair.policy, way.script, as_init=way.as_init), areas.EXCLUDED.get(area, ()))
 
 
-def compare_folders(bench, asked):
+def compare_folders(bench: comparison.Bench, asked: Namespace) -> int:
     outcome = Outcome(ALL if asked.verbose else DIFFERENT if asked.folders else NOT_KNOWN)
     expected = differences.shown_by()
     for folder in asked.folders or folders.all_folders():
@@ -67,7 +67,7 @@ def compare_folders(bench, asked):
     return outcome.told()
 
 
-def main():
+def main() -> int:
     asked = words()
     if asked.changes_of_names:
         return changes_of_names.run()

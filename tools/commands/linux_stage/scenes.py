@@ -6,12 +6,12 @@ journal that is compared.
 from __future__ import annotations
 
 from dataclasses import dataclass, field, replace
-from typing import TYPE_CHECKING, Any, Optional, Set, Tuple
+from typing import TYPE_CHECKING, Any, List, Optional, Set, Tuple
 
 from tools.commands.linux_stage.attributes import MOST_OF_A_VALUE
 from tools.references.stepping import policies, scripts
-from tools.references.stepping.facts import CALL_NAMES, Addfd, Fail, error_text
-from tools.references.stepping.kernel import SYSINFO_SIZE, Kernel
+from tools.references.stepping.facts import CALL_NAMES, Addfd, Event, Fail, error_text
+from tools.references.stepping.kernel import SYSINFO_SIZE, Kernel, Task
 from tools.references.stepping.plays import played
 from tools.references.stepping.reports import line_of
 from tools.references.stepping.rules import Mknod, Mount, SetXattr, base_of, plan
@@ -137,20 +137,20 @@ class WatchedTree(Tree):
         self.walked.onto_mount |= found in self.mounted
         return found
 
-    def walk(self, path, base, creates):
+    def walk(self, path: bytes, base: Optional[int], creates: bool) -> Any:
         self.walked.onto_mount |= base in self.opened_below and not path.startswith(b"/")
         return super().walk(path, base, creates)
 
-    def test_component(self, at, part):
+    def test_component(self, at: int, part: bytes) -> None:
         self.walked.onto_mount |= (at, part) in self.made_below
         super().test_component(at, part)
 
-    def add(self, directory, name, *rest):
+    def add(self, directory: int, name: bytes, *rest: Any) -> None:
         if self.walked.onto_mount:
             self.made_below |= {(directory, name), (self.top(directory), name)}
         super().add(directory, name, *rest)
 
-    def looked_at(self, path, base, creates):
+    def looked_at(self, path: bytes, base: Optional[int], creates: bool) -> Walked:
         """How a walk goes, which changes nothing."""
         slash = self.ends_with_slash(path, base, creates)
         self.walked = Walked(slash)
@@ -163,7 +163,7 @@ class WatchedTree(Tree):
             self.walked.error = error_text(error.fail.number)
         return self.walked
 
-    def ends_with_slash(self, path, base, creates):
+    def ends_with_slash(self, path: bytes, base: Optional[int], creates: bool) -> bool:
         for _ in range(MOST_LINKS + 1):
             if slash_at_the_end(path):
                 return True
@@ -185,13 +185,13 @@ class WatchedTree(Tree):
             node = self.nodes[node].directory
         return node
 
-    def mount(self, request, base):
+    def mount(self, request: Mount, base: Optional[int]) -> Optional[Fail]:
         answer = super().mount(request, base)
         if answer is None and request.flags & READ_ONLY:
             self.read_only.add(len(self.nodes) - 1)
         return answer
 
-    def done(self, request, base):
+    def done(self, request: Any, base: Optional[int]) -> Optional[Fail]:
         path = request.target if isinstance(request, Mount) else request.path
         self.latest = self.looked_at(path, base, isinstance(request, Mknod))
         return super().done(request, base)
@@ -201,14 +201,15 @@ class WatchedKernel(Kernel):
     """A kernel that notes each step with its facts."""
 
     def __init__(self, container):
-        self.found, self.facts, self.puts, self.torn = [], Step(), {}, {}
+        self.found, self.facts, self.puts, self.torn, self.installed = [], Step(), {}, {}, set()
         super().__init__(container)
         self.tree = WatchedTree(container)
 
-    def note(self, actor, kind, *facts):
+    def note(self, actor: str, kind: str, *facts: Any) -> Event:
         event = super().note(actor, kind, *facts)
-        if kind in NOTED:
-            NOTED[kind](self, actor, *facts)
+        look = getattr(self, f"note_{kind.replace('-', '_')}", None)
+        if look:
+            look(actor, *facts)
         self.facts.line = line_of(len(self.events) - 1, event)
         self.found.append(self.facts)
         self.facts = Step()
@@ -216,16 +217,16 @@ class WatchedKernel(Kernel):
 
     # ---- before a step
 
-    def next_pid(self):
+    def next_pid(self) -> Optional[int]:
         self.facts.last_pid = self.last_pid
         return super().next_pid()
 
-    def make_task(self, name, pid, parent, group, *rest):
+    def make_task(self, name: Tuple[int, ...], pid: int, parent: Optional[Task], group: Group, *rest: Any) -> Task:
         if parent and group is not parent.group:
             self.torn[group] = list(self.torn.get(parent.group, []))
         return super().make_task(name, pid, parent, group, *rest)
 
-    def native(self, task, number, args):
+    def native(self, task: Task, number: int, args: Tuple[int, ...]) -> Any:
         step, group, name = self.facts, task.group, CALL_NAMES.get(number)
         step.call, step.filters, parts = (number, args), self.container.filters, plan(number, args)
         step.texts = [group.copy(part) for part in parts]
@@ -239,13 +240,13 @@ class WatchedKernel(Kernel):
             self.look_at_path(task, name, base_of(number, args), step.texts[PATHS[name]])
         return super().native(task, number, args)
 
-    def open_natively(self, group, request, base):
+    def open_natively(self, group: Group, request: Any, base: Optional[int]) -> Any:
         answer = super().open_natively(group, request, base)
         if self.tree.walked.onto_mount and not isinstance(answer, Fail):
             self.tree.opened_below.add(group.slots[answer][1])
         return answer
 
-    def look_at_path(self, task, name, dirfd, path):
+    def look_at_path(self, task: Task, name: str, dirfd: Any, path: Any) -> None:
         base = self.directory(task.group, dirfd)
         self.facts.is_other_node = base is None and dirfd in task.group.slots
         if not isinstance(path, Fail):
@@ -259,15 +260,15 @@ class WatchedKernel(Kernel):
     def is_torn(self, group: Group, address: int, length: int) -> bool:
         return any(begin < address + length and address < end for begin, end in self.torn.get(group, []))
 
-    def install(self, task):
-        queue = task.call.queue
-        put = self.facts.put = next(put for put in self.puts.values() if put.asked is queue[0].asked)
-        put.is_full, put.has_others = task.group.lowest_free(self.container.rlimit) is None, len(queue) > 1
-        call, event = task.call, super().install(task)
-        call.is_installed = call.back is not None
+    def install(self, task: Task) -> Event:
+        call: Any = task.call
+        put = self.facts.put = next(put for put in self.puts.values() if put.asked is call.queue[0].asked)
+        put.is_full, put.has_others = task.group.lowest_free(self.container.rlimit) is None, len(call.queue) > 1
+        event = super().install(task)
+        self.installed |= {call} if call.back is not None else set()
         return event
 
-    def put_answer(self, number, asked):
+    def put_answer(self, number: int, asked: Addfd) -> Optional[Fail]:
         answer = super().put_answer(number, asked)
         self.facts.put = Put(asked)
         self.facts.is_installed = self.is_installed(asked.id)
@@ -275,29 +276,29 @@ class WatchedKernel(Kernel):
             self.puts[number] = self.facts.put
         return answer
 
-    def resume(self, task):
+    def resume(self, task: Task) -> Event:
         self.look_at_signals(task)
-        self.lose(task.call, "answer")
+        self.lose(task, "answer")
         return super().resume(task)
 
-    def deliver(self, task, signal):
+    def deliver(self, task: Task, signal: int) -> Event:
         self.look_at_signals(task)
-        if task.call is not None:
-            self.lose(task.call, "signal")
+        self.lose(task, "signal")
         return super().deliver(task, signal)
 
-    def look_at_signals(self, task):
+    def look_at_signals(self, task: Task) -> None:
         step, call = self.facts, task.call
         step.pending = frozenset(task.pending)
         step.fatal = frozenset(filter(task.is_fatal, task.pending))
         step.is_held = self.container.killable and call is not None and call.is_fetched
         step.is_queued = call is not None and bool(call.queue)
 
-    def lose(self, call, by):
+    def lose(self, task: Task, by: str) -> None:
+        """Notes that the requests for a task's call are lost by an answer or a signal."""
+        limit, queue = self.container.rlimit, task.call.queue if task.call else []
         for put in self.puts.values():
-            if any(request.asked is put.asked for request in call.queue):
-                limit = self.container.rlimit
-                put.is_full, put.is_beyond = call.task.group.lowest_free(limit) is None, put.asked.newfd >= limit
+            if any(request.asked is put.asked for request in queue):
+                put.is_full, put.is_beyond = task.group.lowest_free(limit) is None, put.asked.newfd >= limit
                 put.lost_by = by
 
     # ---- behind a step that leaves the facts as they were
@@ -308,42 +309,36 @@ class WatchedKernel(Kernel):
     def note_call(self, actor: str, number: int, args: Tuple[int, ...], verdict: Tuple[Any, ...]) -> None:
         self.facts.call, self.facts.filters = (number, args), self.container.filters
 
-    def note_act(self, actor, request, answer):
+    def note_act(self, actor: str, request: Any, answer: Any) -> None:
         self.facts.request, self.facts.walked = request, replace(self.tree.walked)
 
-    def note_kill(self, actor, pid, signal, answer):
+    def note_kill(self, actor: str, pid: int, signal: int, answer: Any) -> None:
         self.facts.whom = pid
 
-    def note_read(self, actor, address, length, answer):
+    def note_read(self, actor: str, address: int, length: int, answer: Any) -> None:
         memory = self.worker(int(actor[1:])).memory
         self.facts.has_ended = memory is not None and self.has_ended(memory)
         self.facts.is_torn, self.facts.length = self.is_torn(memory, address, length), length
 
-    def note_plant(self, actor, address, content, answer):
+    def note_plant(self, actor: str, address: int, content: bytes, answer: Any) -> None:
         memory = self.worker(int(actor[1:])).memory
         self.facts.has_ended, self.facts.written = self.has_ended(memory), content
         self.facts.fitting = sum(memory.is_mapped(address + at) for at in range(len(content)))
 
-    def note_take(self, actor, answer):
+    def note_addfd_take(self, actor: str, answer: Any) -> None:
         self.facts.put = self.puts[int(actor[1:])]
 
-    def note_send(self, actor, identifier, back, answer):
+    def note_send(self, actor: str, identifier: int, back: Any, answer: Any) -> None:
         self.facts.is_installed = self.is_installed(identifier)
 
     def is_installed(self, identifier: int) -> bool:
-        return getattr(self.named(identifier), "is_installed", False)
+        return self.named(identifier) in self.installed
 
     def has_ended(self, memory: Group) -> bool:
         return all(task.has_ended for task in self.tasks.values() if task.group is memory)
 
 
-NOTED = {
-    "skip": WatchedKernel.note_skip, "call": WatchedKernel.note_call, "act": WatchedKernel.note_act, "kill": WatchedKernel.note_kill, "read": WatchedKernel.note_read,
-    "plant": WatchedKernel.note_plant, "addfd-take": WatchedKernel.note_take, "send": WatchedKernel.note_send,
-}
-
-
-def steps(policy, script):
+def steps(policy: bytes, script: bytes) -> List[Step]:
     """The steps of a script that the program plays under a policy."""
     rules, container = policies.read_policy(policy), scripts.read_script(script)
     session = Session(rules, container)
