@@ -71,11 +71,14 @@ class Rule(NamedTuple):
 
 def find(line: str, what: str, linux: str, here: str, step: Step, place: Place) -> Optional[Known]:
     """The known difference of a step, or None; `what` says what was compared. None too if the journal has another line than the step has to have."""
-    if line != step.line:
-        return None
-    at, seen = f"native {name_of_call(step)}" if what.startswith("native call") else what, Seen(linux, here, step, place)
-    rule = next((rule for rule in RULES if at.startswith(rule.at) and rule.is_cause(seen)), None)
+    seen = Seen(linux, here, step, place)
+    rule = rule_of(what, seen) if line == step.line else None
     return rule and Known(rule.name, seen.is_done if rule.apart is None else rule.apart)
+
+
+def rule_of(what: str, seen: Seen) -> Optional[Rule]:
+    at = f"native {name_of_call(seen.step)}" if what.startswith("native call") else what
+    return next((rule for rule in RULES if at.startswith(rule.at) and rule.is_cause(seen)), None)
 
 
 # ---- what filters say
