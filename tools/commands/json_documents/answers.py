@@ -69,7 +69,7 @@ def answer_of(lines, scripts):
 
 def judgement_at(lines, length):
     """The judgement whose bytes are counted in the line in front of it."""
-    if lines.at < len(lines.lines) and len(lines.next) + 1 != length:
+    if lines.are_left and len(lines.next) + 1 != length:
         raise NotAReport(lines.at, f"{length} bytes of a judgement should stand below")
     return {"kind": "judged", "judgement": verdict_of(lines)}
 
@@ -77,7 +77,7 @@ def judgement_at(lines, length):
 def report_at(lines, length):
     """The report whose bytes are counted in the line in front of it."""
     first, size = lines.at, 0
-    while size < length and lines.at < len(lines.lines):
+    while size < length and lines.are_left:
         size += len(lines.next) + 1
         lines.at += 1
     if size != length:
@@ -103,7 +103,7 @@ def step_of(line, number):
 def answers_of(data):
     kept, scripts = without_scripts(data)
     lines, scripts, answers = Lines(kept), iter(scripts), []
-    while lines.at < len(lines.lines):
+    while lines.are_left:
         answers.append(answer_of(lines, scripts))
     return {"answers": answers}
 

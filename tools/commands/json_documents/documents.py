@@ -47,8 +47,7 @@ def pod_lines(document):
 def summary_of(data):
     lines = Lines(data)
     summary, = counts_at(lines, SUMMARY)
-    if lines.at < len(lines.lines):
-        raise NotAReport(lines.at + 1, "nothing may follow the summary")
+    lines.end("the summary")
     return {"summary": summary}
 
 

@@ -108,7 +108,7 @@ def exploration_of(data: bytes) -> Dict[str, Any]:
     lines = Lines(data)
     workers, delays, *counts, outcomes, whole = lines.take(FIRST, "the counts of what was explored")
     found = []
-    while lines.at < len(lines.lines):
+    while lines.are_left:
         found.append(outcome_of(lines))
     if len(found) != int(outcomes):
         raise NotAReport(1, f"{outcomes} outcomes are counted, and {len(found)} stand below")

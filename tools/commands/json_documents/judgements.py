@@ -55,7 +55,7 @@ def broken_of(lines):
     call = None if call == NO_CALL else event_in(call, lines.at)
     means, = lines.take(SAID_LINE, "what it means")
     reasons = []
-    while lines.at < len(lines.lines):
+    while lines.are_left:
         reasons.append(reason_of(lines))
     return {"kind": "broken", "class": verdict["class"], "clause": verdict["clause"], "event": event, "call": call, "means": means, "reasons": reasons}
 
@@ -63,8 +63,7 @@ def broken_of(lines):
 def judgement_of(data):
     lines = Lines(data)
     found = verdict_of(lines) if is_mediated(lines) else broken_of(lines)
-    if lines.at < len(lines.lines):
-        raise NotAReport(lines.at + 1, "nothing may follow the counts")
+    lines.end("the counts")
     return {"judgement": found}
 
 

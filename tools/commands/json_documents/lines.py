@@ -18,12 +18,21 @@ class Lines:
         """The next line, where there is one."""
         return self.lines[self.at]
 
+    @property
+    def are_left(self) -> bool:
+        return self.at < len(self.lines)
+
+    def end(self, what: str) -> None:
+        """Sees that the output ends here."""
+        if self.are_left:
+            raise NotAReport(self.at + 1, f"nothing may follow {what}")
+
     def next_is(self, text: str) -> bool:
-        return self.at < len(self.lines) and self.lines[self.at].startswith(text)
+        return self.are_left and self.lines[self.at].startswith(text)
 
     def take(self, form: Pattern[str], what: str) -> Tuple[Any, ...]:
         """The parts of the next line, which has this form."""
-        parts = form.fullmatch(self.lines[self.at]) if self.at < len(self.lines) else None
+        parts = form.fullmatch(self.lines[self.at]) if self.are_left else None
         if parts is None:
             raise NotAReport(self.at + 1, f"{what} should be here")
         self.at += 1

@@ -81,12 +81,11 @@ def comparison_of(data):
     else:
         classes, counts, whole = lines.take(HEAD_LINE, "how many classes and counts differ")
         found = {"outcome": DIFFER, "classes": int(classes), "counts": int(counts), "whole": whole == "yes", "changes": [], "counted": []}
-        while lines.at < len(lines.lines) and not lines.next_is("counts "):
+        while lines.are_left and not lines.next_is("counts "):
             found["changes"].append(change_of(lines))
         while lines.next_is("counts "):
             found["counted"].append(count_of(lines))
-    if lines.at < len(lines.lines):
-        raise NotAReport(lines.at + 1, "nothing may follow the comparison")
+    lines.end("the comparison")
     return found
 
 
@@ -127,7 +126,7 @@ def standings_of(data):
         if claims[-1].get("call", "") is None:
             raise NotAReport(lines.at, "the call has another form")
     counts, = lines.take(CLAIMS_LINE, "how many claims there are")
-    if counts != claims_line(claims) or lines.at < len(lines.lines):
+    if counts != claims_line(claims) or lines.are_left:
         raise NotAReport(lines.at, "other counts should be here, at the end")
     return {"claims": claims}
 
@@ -162,8 +161,7 @@ def findings_of(data):
     else:
         count, = lines.take(FINDINGS_LINE, "how many findings there are")
         found = [finding_of(lines) for _ in range(int(count))]
-    if lines.at < len(lines.lines):
-        raise NotAReport(lines.at + 1, "nothing may follow the findings")
+    lines.end("the findings")
     return {"findings": found}
 
 

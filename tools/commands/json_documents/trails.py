@@ -16,7 +16,7 @@ TRAIL = Form("trail {call} recv={receive} valid={valid} effect={effect} answer={
 def trail_of(data):
     lines = Lines(data)
     first, trail = FIRST.read(lines.take(FIRST_LINE, "'yes' and the number of events")), []
-    while lines.at < len(lines.lines):
+    while lines.are_left:
         trail.append(TRAIL.read(lines.take(TRAIL_LINE, "the trail of a call")))
     return {**first, "trail": trail}
 
