@@ -10,10 +10,12 @@ Exit status: 0 if all is so, else 1. The last line is `executables: N passed, N 
 import os
 import resource
 import subprocess
+import sys
 import tempfile
 from concurrent.futures import ThreadPoolExecutor
 from pathlib import Path
 
+from tools.checks.outputs import closed_pipe
 from tools.checks.tallies import Tally
 from tools.commands.command_line import arguments, ending
 from tools.commands.command_line.top import TOP
@@ -41,7 +43,7 @@ ENDLESS = {
 ENOUGH, LITTLE = 2 << 30, 30 << 20
 WITHOUT_MEMORY = {"test": f"--program {{program}} {TOP}/examples/tests/container.test", "picture": f"{FIRST}/report.txt"}
 # descriptors that are enough for Python, and not for starting the program
-DESCRIPTORS = 12
+DESCRIPTORS = 7
 WITHOUT_DESCRIPTORS = {"lint-script": PRINTED["lint-script"], "test": PRINTED["test"]}
 OF_COMMAND = ("help", "--help", "--version", "help play", "play --help", "test --help")
 
@@ -53,12 +55,6 @@ def executables():
 def executable(word):
     """The words by which a user's tool is called, or an executable by its path."""
     return [TOP / word] if "/" in word else [TOP / "broker", word]
-
-
-def closed_pipe():
-    here, there = os.pipe()
-    os.close(here)
-    return there
 
 
 OUTPUTS = {"a full device": lambda: os.open("/dev/full", os.O_WRONLY), "a pipe without a reader": closed_pipe, "a closed descriptor": lambda: None}
@@ -123,7 +119,8 @@ def of_bytes(most, least):
 
 
 def of_descriptors(here, words):
-    ended = here.run(words, preexec_fn=lambda: resource.setrlimit(resource.RLIMIT_NOFILE, (DESCRIPTORS, DESCRIPTORS)))
+    # (what the machine has in place of Python, as a script that looks for one, may take more)
+    ended = here.run([sys.executable, *words], preexec_fn=lambda: resource.setrlimit(resource.RLIMIT_NOFILE, (DESCRIPTORS, DESCRIPTORS)))
     if ended.returncode != ending.NO_MEMORY or ended.stderr.count("\n") != 1:
         yield f"{' '.join(words[1:])} with {DESCRIPTORS} descriptors: {told(ended)}"
 

@@ -11,9 +11,7 @@ PROGRAM is the program that is asked; without it, the one that ./broker runs. Ex
 """
 import ast
 import os
-import pty
 import shutil
-import signal
 import socket
 import subprocess
 import tempfile
@@ -21,6 +19,7 @@ from concurrent.futures import ThreadPoolExecutor
 from difflib import unified_diff
 from pathlib import Path
 
+from tools.checks.outputs import on_terminal
 from tools.checks.tallies import Tally
 from tools.commands.command_line import arguments, ending
 from tools.commands.command_line.top import TOP
@@ -100,23 +99,10 @@ def without_cure(program, folder):
     return "" if any(it.startswith("help: ") for it in told) else "\n".join([line, *told, "(no cure)"])
 
 
-def on_terminal(words, folder, cut_at=None):
-    """How a command ends whose standard error is a terminal, what it prints, and what it says there. It is interrupted where it says what `cut_at` has."""
-    here, there = pty.openpty()
-    with subprocess.Popen(words, cwd=folder, stdin=subprocess.DEVNULL, stdout=subprocess.PIPE, stderr=there) as process:
-        os.close(there)
-        said = b""
-        try:
-            while True:
-                said += os.read(here, 65536)
-                if cut_at is not None and cut_at in said:
-                    cut_at = None
-                    process.send_signal(signal.SIGINT)
-        except OSError:
-            # the last one that had the terminal open has ended
-            os.close(here)
-        output = process.stdout.read()
-    return process.returncode, output, said.decode("utf-8", "replace").replace("\r\n", "\n")
+def said_on_terminal(words, folder, cut_at=None):
+    """How a command ends whose standard error is a terminal, what it prints, and what it says there."""
+    status, output, said = on_terminal(words, folder, cut_at=cut_at)
+    return status, output, said.decode("utf-8", "replace").replace("\r\n", "\n")
 
 
 def of_program(said):
@@ -134,7 +120,7 @@ def command_faults(program, folder):
             return subprocess.run([*OVER, program, "play", *options, policy, "script.txt"], cwd=folder, stdin=subprocess.DEVNULL, capture_output=True, text=True, env={**os.environ, **variables})
 
         plain, told = without_terminal("--plain"), without_terminal()
-        seen = on_terminal([*OVER, program, "play", policy, "script.txt"], folder)
+        seen = said_on_terminal([*OVER, program, "play", policy, "script.txt"], folder)
         refused = ['policy: unknown key at "rule"'] if status else []
         for how, ended in (("with --plain", plain), ("with the variable", without_terminal(SECCOMP_BROKER_PLAIN="1"))):
             if (ended.returncode, ended.stdout, of_program(ended.stderr)) != (status, plain.stdout, refused):
@@ -191,7 +177,7 @@ def exploration_faults(folder):
     slow = Path(folder, "slow")
     slow.write_text(SLOW)
     slow.chmod(0o755)
-    status, output, said = on_terminal([*OVER, str(slow), "explore", "policy.json", "script.txt", "0", "all"], folder, b"bound 8 has ended")
+    status, output, said = said_on_terminal([*OVER, str(slow), "explore", "policy.json", "script.txt", "0", "all"], folder, b"bound 8 has ended")
     if (status, output) != (130, b"explored workers=0 delays=8\n") or "what is printed is bound 8" not in said:
         yield f"an interrupted exploration: status {status}, {said!r}, output {output!r}"
 

@@ -12,7 +12,6 @@ from __future__ import annotations
 
 import json
 import os
-import pty
 import re
 import shutil
 import subprocess
@@ -24,6 +23,7 @@ from typing import Iterator, Tuple
 from xml.etree import ElementTree
 
 from tools.checks.json_schemas import Schemas, undetected
+from tools.checks.outputs import on_terminal
 from tools.checks.tallies import Tally
 from tools.commands.command_line import arguments, ending
 from tools.commands.command_line.top import TOP
@@ -198,26 +198,14 @@ def exploration_cut_off(_, room):
         yield f"{tests}"
 
 
-def on_terminal(program, room, **environment):
-    """What is printed on a terminal."""
-    here, there = pty.openpty()
-    with subprocess.Popen([*COMMAND, "--program", program, "good.test"], cwd=room, stdin=subprocess.DEVNULL, stdout=there, stderr=subprocess.DEVNULL, env={**os.environ, **environment}) as process:
-        os.close(there)
-        said = b""
-        try:
-            while True:
-                said += os.read(here, 65536)
-        except OSError:
-            # the last one that had the terminal open has ended
-            os.close(here)
-        process.wait()
-    return said
+def shown_on_terminal(program, room, **environment):
+    return on_terminal([*COMMAND, "--program", program, "good.test"], room, is_output=True, **environment)[2]
 
 
 def colours(program, room):
-    if b"\x1b[32mok\x1b[0m" not in on_terminal(program, room, NO_COLOR=""):
+    if b"\x1b[32mok\x1b[0m" not in shown_on_terminal(program, room, NO_COLOR=""):
         yield "a terminal has no colours"
-    if b"\x1b" in on_terminal(program, room, NO_COLOR="1"):
+    if b"\x1b" in shown_on_terminal(program, room, NO_COLOR="1"):
         yield "NO_COLOR is set, and there are colours"
 
 

@@ -16,6 +16,7 @@ import threading
 import time
 from pathlib import Path
 
+from tools.checks.outputs import closed_pipe
 from tools.commands.command_line import arguments, ending
 from tools.commands.command_line.top import TOP
 
@@ -62,12 +63,6 @@ def write(name, content):
 
 def played(**ways):
     return [Run(**ways).answer()]
-
-
-def closed_pipe():
-    read, write = os.pipe()
-    os.close(read)
-    return write
 
 
 def into_file(**ways):
