@@ -7,6 +7,8 @@ Who is able to step is found by playing: a schedule that leads to a place, and t
 All histories within the bound are made first, and put in order afterwards. The second form puts each schedule of an output of `explore`
 into the script, plays it, and compares what came of its calls with the lines above the schedule.
 """
+from __future__ import annotations
+
 import sys
 from pathlib import Path
 
@@ -15,7 +17,7 @@ from tools.commands.command_line.arguments import ToolParser
 from tools.commands.explored import Broker, Explorer, NotPlayed, faults_in
 
 
-def main():
+def main() -> None:
     parser = ToolParser()
     parser.add_argument("--program")
     parser.add_argument("--play", metavar="OUTPUT")

@@ -92,5 +92,5 @@ def done(word: str, files: List[str]) -> None:
         raise inputs.Ended(inputs.WRITE_FAULT, "write fault") from None
 
 
-def main():
+def main() -> int:
     return inputs.status_of(done, *asked(), says_why=False)

@@ -6,10 +6,13 @@ for each combination of the others.
 from __future__ import annotations
 
 import itertools
-from typing import NamedTuple
+from typing import TYPE_CHECKING, Any, Iterable, Iterator, List, NamedTuple, Optional, Tuple, Union
 
 from tools.commands.real_workloads.script_text import CALLS
 from tools.references.stepping.rules import BITS, OTHER_CALLS, Mknod, Mount, OpenAt, Other, SetXattr, Sysinfo, meets
+
+if TYPE_CHECKING:
+    from tools.references.stepping.rules import Rule
 
 LONGEST_PATH, LONGEST_NAME, LONGEST_VALUE = 4095, 255, 4096
 # of more flags than these, sets of one or two and their complements are tried alone
@@ -56,22 +59,22 @@ def request_of(call, **values):
 # ---- the values of each field
 
 
-def named(rules, name):
+def named(rules: List[Rule], name: str) -> List[Tuple[Any, ...]]:
     """The values of the conditions of one name, each once, in their order."""
     return list(dict.fromkeys(it.values for rule in rules for it in rule.conditions if it.name == name))
 
 
-def another(choices, taken):
+def another(choices: Iterator[Any], taken: Iterable[Union[bytes, int]]) -> Union[bytes, int]:
     return next(it for it in choices if it not in taken)
 
 
-def texts(rules, name, longest, zeros=False):
+def texts(rules: Any, name: str, longest: int, zeros: bool = False) -> Any:
     """The texts of a field that are named, as far as calls can have them, and another."""
     found = [text for (text,) in named(rules, name) if len(text) <= longest and (zeros or b"\0" not in text)]
     return [*found, another((b"x" * count for count in itertools.count(1)), found)]
 
 
-def paths(rules):
+def paths(rules: Any) -> Any:
     """As for other texts; below each directory there is another one too, and one that goes up again."""
     known = {text for (text,) in named(rules, "path")}
     found = [*texts(rules, "path", LONGEST_PATH), another((b"/" + b"x" * count for count in itertools.count(1)), known)]
@@ -91,12 +94,12 @@ def nodes(rules):
     return [(mode, device + high) for mode in MODES for device in devices for high in (0, HIGH_BIT)]
 
 
-def descriptors(rules):
+def descriptors(rules: Any) -> Any:
     found = [number for (number,) in named(rules, "dirfd")]
     return [*found, another(itertools.count(9), found), another(itertools.chain([-100], itertools.count(9)), found)]
 
 
-def flag_sets(rules):
+def flag_sets(rules: List[Rule]) -> List[int]:
     """The sets of the flags that are named."""
     flags = {flag for every, none in named(rules, "flags") for flag in (*every, *none)} | ({"REMOUNT", "BIND", "MOVE"} if named(rules, "plain flags") else set())
     bits = sorted({BITS[flag] for flag in flags})
@@ -115,7 +118,7 @@ VALUES = {
 # ---- the cells
 
 
-def is_for(rule, call):
+def is_for(rule: Any, call: Optional[str]) -> bool:
     return call is None if rule.calls == OTHER_CALLS else call in rule.calls
 
 
@@ -146,6 +149,6 @@ def cells_of(rules, call):
     return [Cell(*it) for it in found.items()]
 
 
-def cells(rules):
+def cells(rules: List[Rule]) -> List[Cell]:
     """The cells of all calls."""
     return [cell for call in (*CALLS, None) for cell in cells_of(rules, call)]

@@ -1,9 +1,15 @@
 """Claims about all calls (docs/reference/OUTPUTS.md, Claims): how they are read, and which hold of a policy."""
+from __future__ import annotations
+
 import re
+from typing import TYPE_CHECKING, Any, List
 
 from tools.references.deciding.cells import cells
 from tools.references.stepping.facts import quoted
 from tools.references.stepping.policies import Refused, members, read_rules, refuse_key, value_of
+
+if TYPE_CHECKING:
+    from tools.references.stepping.rules import Rule
 
 EXPECT, NEVER = "expect", "never"
 # claims have the conditions of the profile, and no number of times
@@ -14,26 +20,26 @@ HELD, VACUOUS, REFUTED = "held", "vacuous", "refuted"
 class Claim:
     """A claim: whether it says how its calls are decided, or how none is, and the rule that it is read as."""
 
-    def __init__(self, sense, rule):
+    def __init__(self, sense: str, rule: Rule) -> None:
         self.sense, self.rule = sense, rule
 
-    def is_borne_out_by(self, rule):
+    def is_borne_out_by(self, rule: Rule) -> bool:
         """Whether a rule answers as the claim has it: of a grant and a pass that alone counts, of a denial the error too, and of an injection the descriptors."""
         return (answer_of(rule) == answer_of(self.rule)) == (self.sense == EXPECT)
 
 
-def answer_of(rule):
+def answer_of(rule: Any) -> Any:
     return rule.verdict, rule.error, rule.source, rule.place
 
 
-def read_list(name, value):
+def read_list(name: str, value: Any) -> Any:
     try:
         return [Claim(name, rule) for rule in read_rules(value, VERSION, PROFILE)]
     except Refused as refused:
         raise Refused(re.sub(r"( at )rules", rf"\g<1>{name}", str(refused))) from None
 
 
-def read_claims(data):
+def read_claims(data: bytes) -> List[Claim]:
     """The claims of a file's bytes: those that expect something, and then the others. Raises Refused."""
     found = []
     for key, value in members(value_of(data), "(top)"):

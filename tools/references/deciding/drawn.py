@@ -1,8 +1,10 @@
 """Pairs of policies and claims that are drawn at random: ordinary ones, of which the second is mostly the first with a change, and hard ones."""
+from __future__ import annotations
+
 import copy
 import json
 import random
-from typing import NamedTuple
+from typing import Any, Dict, List, NamedTuple, Tuple
 
 from tools.commands.messages.policy_words import CONDITIONS, FLAGS
 from tools.references.stepping.drawn_calls import VALUES_OF, Chooser
@@ -31,14 +33,14 @@ class Drawn(NamedTuple):
 
 
 class PairChooser(Chooser):
-    def __init__(self, chance, is_hard):
+    def __init__(self, chance: random.Random, is_hard: bool) -> None:
         super().__init__(chance)
         self.is_hard = is_hard
 
     def flags(self, call):
         return {key: self.some(FEW_FLAGS[call]) for key in self.some(("all", "none"))}
 
-    def rule(self, name, profile):
+    def rule(self, name: str, profile: bool) -> Dict[str, Any]:
         found = super().rule(name, profile)
         for key in found["when"] if self.is_hard else ():
             if key in HARD and self.chance.random() < 0.7:
@@ -47,7 +49,7 @@ class PairChooser(Chooser):
 
     # ---- a pair
 
-    def pair(self):
+    def pair(self) -> Tuple[Dict[str, Any], Dict[str, Any]]:
         if self.is_hard and self.chance.random() < 0.3:
             return self.chance.choice([self.crosswise, self.covering, self.split])()
         old = self.stated()
@@ -68,7 +70,7 @@ class PairChooser(Chooser):
         narrow = [{"name": f"not-{kind}", "call": list(calls), "when": {"kind": kind}, "then": "pass"} for kind in ("reg", "chr", "blk", "fifo", "sock") if kind not in kinds]
         return self.of_rules([*narrow, *old]), self.of_rules([*narrow, *new, *(whole if self.chance.random() < 0.5 else [])])
 
-    def covering(self):
+    def covering(self) -> Tuple[Dict[str, Any], Dict[str, Any]]:
         """Rules whose flags cover all mounts together, and one behind them."""
         flag, other = self.chance.sample(FEW_FLAGS["mount"], 2)
         rules = [{"name": name, "call": "mount", "when": {"flags": stated}, "then": self.chance.choice(["grant", "pass", {"deny": "EPERM"}])}
@@ -82,27 +84,27 @@ class PairChooser(Chooser):
         return tuple(self.chance.sample([self.of_rules([whole]), self.of_rules([part, whole])], 2))
 
     @staticmethod
-    def limited(name, calls, when, times):
+    def limited(name: str, calls: List[str], when: Dict[str, str], times: int) -> Dict[str, Any]:
         return {"name": name, "call": calls, "when": when, "then": "grant", "times": times}
 
-    def of_rules(self, rules):
+    def of_rules(self, rules: List[Dict[str, Any]]) -> Dict[str, Any]:
         return {"version": 2, "profile": "lxd", "rules": rules}
 
     # ---- changes of a policy
 
-    def add(self, policy):
+    def add(self, policy: Dict[str, Any]) -> None:
         policy["rules"].insert(self.chance.randrange(len(policy["rules"]) + 1), self.rule(f"new-{len(policy['rules'])}-{self.chance.randrange(10**6)}", "profile" in policy))
 
-    def drop(self, policy):
+    def drop(self, policy: Dict[str, Any]) -> None:
         if policy["rules"]:
             policy["rules"].pop(self.chance.randrange(len(policy["rules"])))
 
-    def swap(self, policy):
+    def swap(self, policy: Dict[str, Any]) -> None:
         if len(policy["rules"]) > 1:
             at = self.chance.randrange(len(policy["rules"]) - 1)
             policy["rules"][at:at + 2] = policy["rules"][at:at + 2][::-1]
 
-    def alter(self, policy):
+    def alter(self, policy: Dict[str, Any]) -> None:
         """Another value of a condition, or a condition less."""
         stated = [(rule, key) for rule in policy["rules"] for key in rule["when"]]
         if not stated:
@@ -113,7 +115,7 @@ class PairChooser(Chooser):
         else:
             rule["when"][key] = self.chance.choice(VALUES_OF[key])
 
-    def reconfigure(self, policy):
+    def reconfigure(self, policy: Dict[str, Any]) -> None:
         policy["config"] = self.config("profile" in policy)
 
     # ---- claims
@@ -131,7 +133,7 @@ class PairChooser(Chooser):
             found[self.chance.choice(["expect", "never"])].append(claim)
         return {key: value for key, value in found.items() if value or self.chance.random() < 0.5}
 
-    def narrow(self, claim):
+    def narrow(self, claim: Dict[str, Any]) -> None:
         """A condition more."""
         calls = [claim["call"]] if isinstance(claim["call"], str) else claim["call"]
         stated = claim.get("when", {})
@@ -141,14 +143,14 @@ class PairChooser(Chooser):
             claim["when"] = {**stated, key: self.chance.choice(VALUES_OF[key])}
 
 
-def drawn(seed):
+def drawn(seed: str) -> Drawn:
     chance = random.Random(seed)
     chooser = PairChooser(chance, chance.random() < 0.5)
     old, new = chooser.pair()
     return Drawn(old, new, chooser.claims(old), damaged(chance, text(new)))
 
 
-def damaged(chance, data):
+def damaged(chance: random.Random, data: bytes) -> bytes:
     """Some bytes, with one or two of them changed, left out or put in: marks of JSON, and letters of words."""
     found = bytearray(data)
     for _ in range(chance.randrange(1, 3)):
@@ -157,6 +159,6 @@ def damaged(chance, data):
     return bytes(found)
 
 
-def text(value):
+def text(value: Dict[str, Any]) -> bytes:
     """A value as the bytes of a file, in lines."""
     return json.dumps(value, indent=1).encode()

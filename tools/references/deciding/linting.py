@@ -1,11 +1,16 @@
 """Which rules of a policy's own are for nothing: those that fit no call, that decide none, and without which all calls are decided the same."""
-from typing import NamedTuple
+from __future__ import annotations
+
+from typing import TYPE_CHECKING, Any, Iterator, List, NamedTuple, Set, Tuple
 
 from tools.references.deciding.cells import cells
 from tools.references.deciding.comparing import once
 from tools.commands.messages.findings import Text
 from tools.commands.messages.json_places import Scanner
 from tools.commands.messages.policies import finding_of, refused_at
+
+if TYPE_CHECKING:
+    from tools.references.stepping.rules import Rule
 
 NEVER, SHADOWED, NEEDLESS = "never", "shadowed", "needless"
 WORDS = {NEVER: "no call meets these conditions", SHADOWED: "this rule decides no call", NEEDLESS: "without this rule every call has the same answer"}
@@ -19,12 +24,12 @@ class Finding(NamedTuple):
     by: tuple
 
 
-def is_alike(rule, other):
+def is_alike(rule: Rule, other: Rule) -> bool:
     """Whether two rules answer alike, and neither counts."""
     return once(rule) == once(other) and rule.times is None and other.times is None
 
 
-def finding(rules, place, found):
+def finding(rules: Any, place: int, found: Any) -> Any:
     """What is said of a rule; None where nothing is."""
     fitting = [cell for cell in found if cell.fitting >> place & 1]
     if not fitting:
@@ -36,11 +41,11 @@ def finding(rules, place, found):
     return Finding(NEEDLESS, place, names(rules, behind)) if all(is_alike(rules[place], rules[it]) for it in behind) else None
 
 
-def names(rules, places):
+def names(rules: List[Rule], places: Set[int]) -> Tuple[str, ...]:
     return tuple(rules[place].name for place in sorted(places))
 
 
-def findings(rules, own):
+def findings(rules: Any, own: int) -> Any:
     """What is said of the first rules, of which there are so many, in their order."""
     found = cells(rules)
     return [it for it in (finding(rules, place, found) for place in range(own)) if it]
@@ -49,12 +54,12 @@ def findings(rules, own):
 # ---- the lines
 
 
-def place_text(it):
+def place_text(it: Finding) -> str:
     """The place of a finding, as a refusal has it."""
     return f"rules[{it.place}]{'.when' if it.name == NEVER else ''}"
 
 
-def lines_of(data, found):
+def lines_of(data: bytes, found: Any) -> Iterator[Any]:
     """What is told of findings on a policy's bytes: each with the line and the column of its place."""
     text = Text(data)
     top = Scanner(text.whole).document()
@@ -63,7 +68,7 @@ def lines_of(data, found):
         yield f"{it.name} {place_text(it)} {at.line}:{at.column} {WORDS[it.name]}" + (f" by={','.join(it.by)}" if it.by else "")
 
 
-def refusal_line(data, refusal):
+def refusal_line(data: bytes, refusal: str) -> str:
     """What is told of a policy that is refused, but for what would be right: `refusal` is what stands behind `policy: `."""
     kind, _, place = refusal.partition(" at ")
     at = finding_of(data, refusal)

@@ -1,4 +1,8 @@
 """The order of calls by which `compare` chooses the one that it tells of a class: fewer bytes that differ from plain values come first, and then one field after another decides."""
+from __future__ import annotations
+
+from typing import Any, List, Tuple
+
 from tools.references.stepping.facts import AT_FDCWD
 from tools.references.stepping.rules import Mknod, Mount, OpenAt, Other, SetXattr, kind_of
 
@@ -7,15 +11,15 @@ LEAST_MODES = {"reg": 0, "fifo": 0o010000, "chr": 0o020000, "bad": 0o030000, "di
 PRINTED = range(32, 127)
 
 
-def byte_rank(byte):
+def byte_rank(byte: int) -> Tuple[int, int]:
     return (0 if byte in range(ord("a"), ord("z") + 1) else 1 if byte in PRINTED else 2, byte)
 
 
-def text_part(plain, text):
+def text_part(plain: bytes, text: bytes) -> Tuple[int, Tuple[Any, ...]]:
     return (0, ()) if text == plain else (len(text) + 1, (len(text), [byte_rank(it) for it in text]))
 
 
-def number_part(number):
+def number_part(number: int) -> Tuple[int, Tuple[int]]:
     return (int(number != 0), (number,))
 
 
@@ -23,16 +27,16 @@ def descriptor_part(number):
     return (int(number != AT_FDCWD), (number != AT_FDCWD, number < 0, abs(number)))
 
 
-def flags_part(flags):
+def flags_part(flags: int) -> Tuple[int, Tuple[int]]:
     return (flags.bit_count(), (flags,))
 
 
-def node_parts(request):
+def node_parts(request: Mknod) -> List[Tuple[Any, ...]]:
     """Those of a node. Of the modes of a kind, which all print alike, the least counts."""
     return [text_part(PLAIN_PATH, request.path), number_part(LEAST_MODES[kind_of(request.mode)]), number_part(request.device)]
 
 
-def parts(request):
+def parts(request: Any) -> List[Tuple[Any, ...]]:
     """Which call it is, and what each field costs, with its rank among those that cost as much."""
     if isinstance(request, Other):
         return [(0, (0,)), (0, (request.number < 0, abs(request.number)))]
@@ -47,7 +51,7 @@ def parts(request):
     return [(0, (1,)), number_part(request.address)]
 
 
-def rank(request):
+def rank(request: Any) -> Tuple[int, List[Tuple[Any, ...]]]:
     """The rank of a call: of two the one with the lesser rank is told."""
     found = parts(request)
     return sum(cost for cost, _ in found), [(cost > 0, it) for cost, it in found]

@@ -1,4 +1,8 @@
 """A script in which one task makes a call, and one worker answers it."""
+from __future__ import annotations
+
+from typing import Any, Dict
+
 from tools.references.stepping.facts import quoted
 from tools.references.stepping.rules import Mknod, Mount, OpenAt, Other, SetXattr, Sysinfo
 
@@ -9,7 +13,7 @@ FIRST_ADDRESS, ROOM = 0x10000, 0x2000
 STEPS = 40
 
 
-def texts_of(request):
+def texts_of(request: Any) -> Dict[str, bytes]:
     """The texts of a call with their names, with the zero where one ends them."""
     if isinstance(request, Mount):
         return {"source": request.source + b"\0", "path": request.target + b"\0", "fstype": request.fstype + b"\0", "data": request.options + b"\0"}
@@ -18,7 +22,7 @@ def texts_of(request):
     return {"path": request.path + b"\0"} if isinstance(request, (Mknod, OpenAt)) else {}
 
 
-def call_line(request, at):
+def call_line(request: Any, at: Dict[str, int]) -> str:
     """The call with its arguments; `at` has the addresses of its texts."""
     if isinstance(request, Mknod):
         node = f"{at['path']} {request.mode} {request.device}"
@@ -32,7 +36,7 @@ def call_line(request, at):
     return f"sysinfo {FIRST_ADDRESS}" if isinstance(request, Sysinfo) else str(request.number)
 
 
-def script_of(request):
+def script_of(request: Any) -> bytes:
     """The script, as bytes."""
     assert isinstance(request, (Mknod, Mount, SetXattr, OpenAt, Sysinfo, Other))
     texts = texts_of(request)

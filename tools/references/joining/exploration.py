@@ -1,7 +1,7 @@
 """All histories of a script, level by level: of those of one length that have the same key one goes on for all."""
 from __future__ import annotations
 
-from typing import List, Tuple
+from typing import Any, List, Tuple
 
 from tools.commands.explored import MOST_STEPS, lines_of
 from tools.references.joining.keys import FIELDS, fields_without, key_of
@@ -83,7 +83,7 @@ class Exploration:
             state.rank = rank
         return following
 
-    def end(self, state):
+    def end(self, state: Any) -> None:
         count, length = sum(state.counts.values()), state.kernel.length + 1
         self.histories += count
         self.events += count * length

@@ -1,21 +1,22 @@
 """What two histories must have in common to be joined: a key of named fields, each of which can be left out to see whether it is needed."""
 from __future__ import annotations
 
-from typing import TYPE_CHECKING, List, Tuple
+from typing import TYPE_CHECKING, Any, Callable, List, Tuple
 
 
 if TYPE_CHECKING:
     from tools.references.joining.walked import Entry, Walked
+    from tools.references.stepping.kernel import Task
     from tools.references.stepping.memory import Group
     from tools.references.stepping.scripts import Node
     from tools.references.stepping.trees import Tree
 
 
-def living(kernel):
+def living(kernel: Walked) -> List[Task]:
     return [task for task in kernel.tasks.values() if not task.has_ended]
 
 
-def of_living(pick):
+def of_living(pick: Callable[..., Any]) -> Callable[..., Any]:
     return lambda kernel: tuple(None if task.has_ended else pick(task) for task in kernel.tasks.values())
 
 
@@ -38,15 +39,15 @@ def request_facts(request):
     return None if request is None else (request.asked, request.answer, request.call.is_listed)
 
 
-def of_entries(pick):
+def of_entries(pick: Callable[..., Any]) -> Callable[..., Any]:
     return lambda kernel: tuple((actor, tuple(map(pick, mine))) for actor, mine in sorted(kernel.lines.items()))
 
 
-def of_open(pick):
+def of_open(pick: Callable[..., Any]) -> Callable[..., Any]:
     return lambda kernel: tuple((number, pick(kernel, number, session)) for number, session in sorted(kernel.sessions.items()))
 
 
-def of_calls(pick):
+def of_calls(pick: Callable[..., Any]) -> Callable[..., Any]:
     return lambda kernel: tuple(map(pick, kernel.calls))
 
 
@@ -107,11 +108,11 @@ FIELDS = {
 }
 
 
-def key_of(kernel, fields):
+def key_of(kernel: Any, fields: Any) -> Any:
     return tuple(field(kernel) for field in fields)
 
 
-def fields_without(*dropped):
+def fields_without(*dropped: Any) -> Any:
     for name in dropped:
         if name not in FIELDS:
             raise KeyError(name)

@@ -5,7 +5,7 @@ import os
 import select
 import subprocess
 from threading import Thread
-from typing import Iterator, NamedTuple, Tuple
+from typing import Any, Iterator, List, NamedTuple, Tuple
 
 from tools.commands.command_line.top import TOP
 from tools.references.stepping import policies, scripts
@@ -28,10 +28,10 @@ class Files(NamedTuple):
         with open(self.policy, "rb") as policy, open(self.script, "rb") as script:
             return Session(policies.read_policy(policy.read()), scripts.read_script(script.read()))
 
-    def words(self, program):
+    def words(self, program: str) -> List[str]:
         return [program, "step", self.policy, self.script]
 
-    def rules(self):
+    def rules(self) -> Any:
         with open(self.policy, "rb") as policy:
             return policies.read_policy(policy.read())
 
@@ -45,7 +45,7 @@ def folders() -> Iterator[Tuple[str, Files]]:
                 yield f"{part}/{name}", files
 
 
-def script_ended(program, word, files, script, room):
+def script_ended(program: str, word: str, files: Files, script: bytes, room: str) -> Tuple[int, bytes, bytes]:
     """How a word ends on a script under the policy of files: its status, its output, and its line on standard error. The script is written to a folder."""
     with open(f"{room}/script.txt", "wb") as file:
         file.write(script)
@@ -53,7 +53,7 @@ def script_ended(program, word, files, script, room):
     return ended.returncode, ended.stdout, ended.stderr
 
 
-def play_ended(program, files, script, room):
+def play_ended(program: str, files: Files, script: bytes, room: str) -> Tuple[int, bytes, bytes]:
     """How a play of it ends."""
     return script_ended(program, "play", files, script, room)
 
@@ -66,7 +66,7 @@ def is_taken(files: Files) -> bool:
     return True
 
 
-def answers_of(session, requests):
+def answers_of(session: Any, requests: Any) -> Any:
     return [session.answer(line) for line in requests]
 
 
@@ -130,7 +130,7 @@ def in_pieces(program, files, requests, answers, chance):
     return difference(requests, answers, told["out"]) or ended_badly(asked.returncode, told["err"])
 
 
-def read_up_to(file, count):
+def read_up_to(file: Any, count: int) -> bytes:
     """So many bytes, or fewer where the file ends, or nothing more comes for a while."""
     found = b""
     while len(found) < count and select.select([file], [], [], PATIENCE)[0]:

@@ -1,9 +1,16 @@
 """Sessions of `step` that are drawn at random: what a broker would ask, at the wrong time too, and lines that are no requests."""
+from __future__ import annotations
+
 import random
 from collections import namedtuple
+from typing import TYPE_CHECKING, Any, Optional, Tuple, Union
 
 from tools.references.stepping.facts import AT_FDCWD, CALL_NAMES, SEND, SETFD, Fail, quoted
 from tools.references.stepping.rules import PATH_LIMIT, PIECE, plan
+
+if TYPE_CHECKING:
+    from tools.references.stepping.facts import Notif
+    from tools.references.stepping.sessions import Session
 
 # the last two answers are the report and the script of the session, whose listener is closed
 Drawn = namedtuple("Drawn", "requests answers")
@@ -33,13 +40,13 @@ class Chooser:
         self.notifs = {}
         self.drawn = Drawn([], [])
 
-    def ask(self, request):
+    def ask(self, request: str) -> None:
         """Adds a request with its answer."""
         line = request.encode("latin-1")
         self.drawn.requests.append(line)
         self.drawn.answers.append(self.session.answer(line))
 
-    def draw(self):
+    def draw(self) -> Drawn:
         for _ in range(self.chance.randrange(10, LONGEST)):
             self.one()
             if self.is_over() and self.chance.random() < 0.4:
@@ -52,11 +59,11 @@ class Chooser:
             self.ask(request)
         return self.drawn
 
-    def is_over(self):
+    def is_over(self) -> bool:
         """Whether nothing will come of further steps."""
         return not self.kernel.able() and not self.kernel.calls
 
-    def one(self):
+    def one(self) -> None:
         kind = self.chance.random()
         if kind < 0.04:
             self.ask(self.chance.choice(("able", self.look(), self.look())))
@@ -71,7 +78,7 @@ class Chooser:
 
     # ---- tasks
 
-    def task(self):
+    def task(self) -> str:
         able = self.kernel.able()
         if able and self.chance.random() < 0.85:
             return self.chance.choice(able).actor[1:]
@@ -92,7 +99,7 @@ class Chooser:
 
     # ---- workers
 
-    def of_worker(self, seat):
+    def of_worker(self, seat: int) -> None:
         notif, worker = self.notifs.get(seat), self.kernel.worker(seat)
         is_there = self.kernel.unfetched() is not None and not self.kernel.is_closed
         if self.chance.random() < ((0.8 if is_there else 0.2) if notif is None else 0.03):
@@ -110,7 +117,7 @@ class Chooser:
         likely = {"openat": [Chooser.addfd] * 8, "sysinfo": [Chooser.plant] * 5}.get(call, [Chooser.act] * 4 if call else [])
         return [*DEEDS, *likely, *([Chooser.addfd_result] * 6 if worker.request else [])]
 
-    def receive(self, seat):
+    def receive(self, seat: int) -> None:
         raw = " ".join(["recv-raw", "00" * 80 if self.chance.random() < 0.8 else "01" + "00" * 79])
         before = len(self.kernel.events)
         self.ask(f"w {seat} {self.chance.choice(['recv', 'recv', raw])}")
@@ -118,42 +125,42 @@ class Chooser:
         if len(self.kernel.events) > before and event.kind == "recv" and not isinstance(event.facts[0], Fail):
             self.notifs[seat] = event.facts[0]
 
-    def id(self, notif):
+    def id(self, notif: Optional[Notif]) -> int:
         known = [call.id for call in self.kernel.calls] + [it.id for it in self.notifs.values()]
         if notif and self.chance.random() < 0.8:
             return notif.id
         return self.chance.choice(known) if known and self.chance.random() < 0.8 else self.chance.choice([0, 1, 2, 2**64 - 1])
 
-    def pid(self, notif):
+    def pid(self, notif: Optional[Notif]) -> int:
         if notif and self.chance.random() < 0.8:
             return notif.pid
         return self.chance.choice([task.pid for task in self.kernel.tasks.values()] + [0, 2**32 - 1])
 
-    def address(self, notif):
+    def address(self, notif: Optional[Notif]) -> int:
         stated = [part.address for part in plan(notif.number, notif.args)] or [notif.args[0]] if notif else []
         if stated and self.chance.random() < 0.8:
             return self.chance.choice(stated)
         return self.chance.choice([0, 0x10000, 0x10FFF, 0x1FFF0, 0x20000, 2**47 - 1, 2**64 - 1])
 
-    def open_mem(self, notif):
+    def open_mem(self, notif: Optional[Notif]) -> str:
         return f"open-mem {self.pid(notif)}"
 
-    def open_base(self, notif):
+    def open_base(self, notif: Any) -> str:
         return f"open-base {self.pid(notif)} {self.chance.choice([AT_FDCWD, AT_FDCWD, 0, 3, 4, -1, -2**31])}"
 
     def check(self, notif):
         return f"check {self.id(notif)}"
 
-    def read(self, notif):
+    def read(self, notif: Optional[Notif]) -> str:
         address = self.address(notif)
         length = self.chance.choice([PIECE - address % PIECE, PIECE - address % PIECE, 0, 1, 16, 4096, 65535])
         return f"read {self.chance.choice([str(address), hex(address)])} {length}"
 
-    def plant(self, notif):
+    def plant(self, notif: Optional[Notif]) -> str:
         content = self.kernel.container_sysinfo() if self.chance.random() < 0.6 else bytes(self.chance.randrange(256) for _ in range(112))
         return f"plant {self.address(notif)} {self.chance.choice([content.hex(), content.hex().upper()])}"
 
-    def path(self, notif):
+    def path(self, notif: Optional[Notif]) -> str:
         """A path of the call's, or another one."""
         if notif and self.chance.random() < 0.6:
             group = next((task.group for task in self.kernel.tasks.values() if task.pid == notif.pid), None)
@@ -164,27 +171,27 @@ class Chooser:
         made = [b"/new", b"new", b"", b"/", b"..", b"/a/b", b"/dev/null", b"/./new/../x/", b"x" * 256]
         return quoted(self.chance.choice(nodes + made))
 
-    def act(self, notif):
+    def act(self, notif: Optional[Notif]) -> str:
         kind = CALL_NAMES.get(notif.number) if notif and self.chance.random() < 0.6 else None
         kind = kind if kind in ACTS else self.chance.choice(list(ACTS))
         return "act " + ACTS[kind](self, notif)
 
-    def mknod(self, notif):
+    def mknod(self, notif: Optional[Notif]) -> str:
         return f"mknod {self.path(notif)} {self.chance.choice(KINDS)} {self.chance.choice(DEVICES)}"
 
-    def mknodat(self, notif):
+    def mknodat(self, notif: Optional[Notif]) -> str:
         return f"mknodat {self.chance.choice([AT_FDCWD, 3, 4, 0, -1])} {self.path(notif)} 0o{self.chance.choice(KINDS):o} {self.chance.choice(DEVICES)}"
 
-    def mount(self, notif):
+    def mount(self, notif: Optional[Notif]) -> str:
         behind = self.chance.choice(["", "", ' via "fuse2fs"', ' via "-"', " shift", ' via "x y" shift', ' via ""'])
         flags = self.chance.choice([0, 1, 32, 4096, 0xC0ED0001, 2**40])
         return f'mount "/dev/sda1" {self.path(notif)} {quoted(self.chance.choice(TYPES))} {flags} {quoted(self.chance.choice([b"", b"a,b", bytes(range(1, 40))]))}{behind}'
 
-    def setxattr(self, notif):
+    def setxattr(self, notif: Optional[Notif]) -> str:
         value = quoted(self.chance.choice([b"", b"y", b"\0\xff", b"n" * 50]))
         return f"setxattr {self.path(notif)} {quoted(self.chance.choice(NAMES))} {value} {self.chance.choice([0, 0, 1, 2, 3, 4])}"
 
-    def addfd(self, notif):
+    def addfd(self, notif: Optional[Notif]) -> str:
         sources = sorted(self.kernel.container.broker) or [5]
         flags = self.chance.choice([0, SEND, SEND, SEND | SETFD, SETFD, 4])
         number = self.chance.choice([0, 0, 3, 9, 1023, 4096, 2**20]) if flags & SETFD or self.chance.random() < 0.1 else 0
@@ -193,7 +200,7 @@ class Chooser:
             return "addfd " + " ".join(map(str, fields))
         return "addfd-raw " + (fields[0].to_bytes(8, "little") + b"".join(field.to_bytes(4, "little") for field in fields[1:])).hex()
 
-    def addfd_result(self, _):
+    def addfd_result(self, _: Optional[Notif]) -> str:
         return "addfd-result"
 
     def send(self, notif):
@@ -203,7 +210,7 @@ class Chooser:
         raw = self.id(notif).to_bytes(8, "little") + value.to_bytes(8, "little", signed=True) + error.to_bytes(4, "little", signed=True) + flags.to_bytes(4, "little")
         return f"send-raw {raw.hex()}"
 
-    def let_go(self, _):
+    def let_go(self, _: Optional[Notif]) -> str:
         return "let-go"
 
 
@@ -214,12 +221,12 @@ DEEDS = (
 )
 
 
-def drawn(session, seed):
+def drawn(session: Session, seed: Union[float, str]) -> Drawn:
     """The requests of a session, and their answers."""
     return Chooser(session, random.Random(seed)).draw()
 
 
-def script_and_report(session):
+def script_and_report(session: Drawn) -> Tuple[bytes, bytes]:
     """The script of a drawn session, and the report that a play of it has to give."""
     report, script = (answer.encode("latin-1").partition(b"\n")[2] for answer in session.answers[-2:])
     return script, report

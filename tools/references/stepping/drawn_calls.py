@@ -1,6 +1,9 @@
 """Policies and files of calls that are drawn at random, from few texts and numbers, so that calls often meet conditions of rules; and lines that are no calls."""
+from __future__ import annotations
+
 import json
 import random
+from typing import Any, Dict, List, Sequence, Tuple, Union
 
 from tools.commands.messages.policy_words import ANSWERS, CONDITIONS, ERRORS, FLAGS, KINDS, PREFIX
 from tools.commands.real_workloads.script_text import CALLS
@@ -22,25 +25,25 @@ FAULTY = (
 
 
 class Chooser:
-    def __init__(self, chance):
+    def __init__(self, chance: random.Random) -> None:
         self.chance = chance
 
-    def some(self, choices, least=0):
+    def some(self, choices: Sequence[str], least: int = 0) -> List[str]:
         return self.chance.sample(list(choices), self.chance.randrange(least, min(len(choices), least + 3) + 1))
 
     # ---- policies
 
-    def stated(self):
+    def stated(self) -> Dict[str, Any]:
         """A policy that is taken."""
         profile = self.chance.random() < 0.6
         stated = {"version": 2, "config": self.config(profile), "rules": [self.rule(f"rule-{at}", profile) for at in range(self.chance.randrange(MOST_RULES))]}
         return {"profile": "lxd", **stated} if profile else stated
 
-    def policy(self):
+    def policy(self) -> str:
         """A policy that is taken, as text."""
         return json.dumps(self.stated(), ensure_ascii=self.chance.random() < 0.5)
 
-    def config(self, profile):
+    def config(self, profile: bool) -> Dict[str, str]:
         found = {name: self.chance.choice(SWITCHES) for name in self.some(("mknod", "mount", "mount.shift", "setxattr", "sysinfo"), 2)}
         types = [name for name in TYPES if profile or name in ("ext4", "tmpfs")]
         allowed = self.some(types)
@@ -65,10 +68,10 @@ class Chooser:
             found["times"] = self.chance.choice([1, 2, 2**32 - 1])
         return found
 
-    def flags(self, call):
+    def flags(self, call: str) -> Any:
         return {key: self.some(FLAGS[call]) for key in self.some(("all", "none"))}
 
-    def then(self, answer):
+    def then(self, answer: str) -> Union[Dict[str, Union[int, str]], str]:
         if answer == "deny":
             return {"deny": self.chance.choice(ERRORS)}
         if answer == "inject":
@@ -77,15 +80,15 @@ class Chooser:
 
     # ---- calls
 
-    def text(self, choices):
+    def text(self, choices: Tuple[str, ...]) -> str:
         """A text between quotes; bytes that a report escapes often stand as they are."""
         content = self.chance.choice(choices).encode()
         return quoted(content) if self.chance.random() < 0.7 else '"' + content.decode("latin-1").replace("\\", "\\\\").replace('"', '\\"').replace("\0", "\\0") + '"'
 
-    def dirfd(self):
+    def dirfd(self) -> str:
         return self.chance.choice(["AT_FDCWD", "-0x80000000", *map(str, DESCRIPTORS)])
 
-    def node(self):
+    def node(self) -> str:
         kind = self.chance.choice(KINDS)
         mode = self.chance.choice(["", "", " mode=0o600", " mode=0", " mode=0xfff"])
         return f"{self.text(PATHS)} {kind}{' ' + self.chance.choice(DEVICES) if kind in ('chr', 'blk') else ''}{mode}"
@@ -93,15 +96,15 @@ class Chooser:
     def flags_of(self, call):
         return ",".join(self.some(FLAGS[call])) or self.chance.choice(["-", ","])
 
-    def mount(self):
+    def mount(self) -> str:
         line = f"mount {self.text(PATHS)} {self.text(PATHS)} {self.text(TYPES)}"
         behind = self.chance.random()
         return line + (f" {self.flags_of('mount')}" if behind < 0.8 else "") + (f" {self.text(DATA)}" if behind < 0.3 else "")
 
-    def setxattr(self):
+    def setxattr(self) -> str:
         return f"setxattr {self.text(PATHS)} {self.text(NAMES)} {self.text(VALUES)}" + (f" {self.flags_of('setxattr')}" if self.chance.random() < 0.6 else "")
 
-    def call(self):
+    def call(self) -> str:
         draw = {
             "mknod": lambda: f"mknod {self.node()}", "mknodat": lambda: f"mknodat {self.dirfd()} {self.node()}", "mount": self.mount, "setxattr": self.setxattr,
             "openat": lambda: f"openat {self.dirfd()} {self.text(PATHS)}", "other": lambda: f"other {self.chance.choice(['0', '321', '0x7fffffff'])}",
@@ -109,7 +112,7 @@ class Chooser:
         name = self.chance.choice([*CALLS, "mknod", "mknodat", "mount", "setxattr", "other"])
         return draw[name]() if name in draw else name
 
-    def calls(self):
+    def calls(self) -> bytes:
         """A file of calls, as bytes; of some a line is none, or is cut, and some have other bytes than they should."""
         lines = [self.call() if self.chance.random() < 0.85 else self.chance.choice(["", "  ", "# mknod", "\t#"]) for _ in range(self.chance.randrange(MOST_LINES))]
         kind = self.chance.random()
@@ -122,7 +125,7 @@ class Chooser:
         return bytes(content)
 
 
-def drawn(seed):
+def drawn(seed: str) -> Tuple[bytes, bytes]:
     """A policy and a file of calls, as bytes."""
     chooser = Chooser(random.Random(seed))
     return chooser.policy().encode(), chooser.calls()

@@ -1,7 +1,7 @@
 """Which rule of a policy decides each call of a file, and what the call misses of each rule before it, by what docs/reference/OUTPUTS.md says (An explanation)."""
 from __future__ import annotations
 
-from typing import TYPE_CHECKING, Tuple, Union
+from typing import TYPE_CHECKING, Any, Optional, Tuple, Union
 
 from tools.commands.messages.calls import BITS, fault_of
 from tools.commands.messages.policy_words import FLAGS
@@ -87,7 +87,7 @@ def number_in(request):
     return request.number if isinstance(request, Other) else CALLS[call_of(request)]
 
 
-def node_text(request):
+def node_text(request: Mknod) -> str:
     kind, device = kind_of(request.mode), known.device_of(request)
     return f"{kind} {device[0]}:{device[1]}" if device else kind
 
@@ -96,7 +96,7 @@ def flags_text(request):
     return ",".join(flag for flag in FLAGS[call_of(request)] if has_flag(request, flag)) or "-"
 
 
-def asked_text(request):
+def asked_text(request: Any) -> str:
     """A call as a line of the file has it."""
     if isinstance(request, Mknod):
         return " ".join(["mknod"] if request.dirfd is None else ["mknodat", str(request.dirfd)]) + f" {quoted(request.path)} {node_text(request)}"
@@ -113,7 +113,7 @@ def unlike(found: Union[int, str], wanted: Union[int, str]) -> str:
     return f"{found} is not {wanted}"
 
 
-def flags_missed(request, every, none):
+def flags_missed(request: Any, every: Any, none: Any) -> str:
     unset = next((flag for flag in every if not has_flag(request, flag)), None)
     return f"{unset} is not set" if unset else f"{next(flag for flag in none if has_flag(request, flag))} is set"
 
@@ -141,13 +141,13 @@ def missed(rule, request):
     return f"call: {unlike(call_text(number_in(request)), ' or '.join(rule.calls))}"
 
 
-def reason_of(rule):
+def reason_of(rule: Any) -> str:
     if rule.verdict != "pass":
         return ""
     return f' reason="{CAUSES.get(rule.name) or ("no other rule fits" if rule.name.startswith("default.") else "the rule says so")}"'
 
 
-def explanation(rules, data):
+def explanation(rules: Any, data: bytes) -> Optional[str]:
     """What is told of the calls of a file. Raises Refused."""
     found = []
     for number, request in list(calls_of(data)):

@@ -3,7 +3,7 @@ from __future__ import annotations
 
 import errno
 import re
-from typing import NamedTuple
+from typing import Any, NamedTuple, Optional
 
 from tools.commands.messages.policy_words import ERRORS
 from tools.commands.real_workloads.script_text import CALLS
@@ -74,11 +74,11 @@ def error_text(number: int) -> str:
     return ERROR_NAMES.get(number, f"E{number}")
 
 
-def number_text(answer):
+def number_text(answer: Any) -> str:
     return error_text(answer.number) if isinstance(answer, Fail) else str(answer)
 
 
-def result_text(answer):
+def result_text(answer: Optional[Fail]) -> str:
     return error_text(answer.number) if isinstance(answer, Fail) else "ok"
 
 

@@ -1,8 +1,14 @@
 """Lines that no broker would write: random bytes, requests that are cut and changed, very long lines, and very many at once."""
+from __future__ import annotations
+
 import random
+from typing import TYPE_CHECKING, Iterator, List, Tuple
 
 from tools.references.stepping.drawn import drawn
 from tools.references.stepping.requests import LONGEST
+
+if TYPE_CHECKING:
+    from tools.references.stepping.asking import Files
 
 MANY = 100_000
 ROUNDS = 12
@@ -33,12 +39,12 @@ def changed_script(chance, script):
     return script[:at] + b"".join(line + b"\n" for line in lines)
 
 
-def random_lines(chance, _):
+def random_lines(chance: random.Random, _: Files) -> List[bytes]:
     """Bytes of any value."""
     return bytes(chance.choice((chance.randrange(256), chance.randrange(32, 127), 10)) for _ in range(30_000)).split(b"\n")
 
 
-def changed_lines(chance, files):
+def changed_lines(chance: random.Random, files: Files) -> List[bytes]:
     """The requests of a drawn session, cut, doubled, or with other bytes."""
     found = []
     for line in drawn(files.session(), chance.random()).requests:
@@ -47,7 +53,7 @@ def changed_lines(chance, files):
     return [line.replace(b"\n", b"") for line in found]
 
 
-def long_lines(chance, _):
+def long_lines(chance: random.Random, _: Files) -> List[bytes]:
     """Lines around the greatest length, and far above it."""
     quoted = b'w 0 act setxattr "/a" "user.a" "%s" 0'
     room = LONGEST - len(quoted) + 2
@@ -57,7 +63,7 @@ def long_lines(chance, _):
     ]
 
 
-def many_lines(chance, _):
+def many_lines(chance: random.Random, _: Files) -> List[bytes]:
     """Very many requests."""
     kinds = (b"able", b"t 0", b"t 0.1", b"w 0 check 1", b"w 1 read 0x10000 16", b"w 2 let-go", b"w 3 recv", b"w 4 send 1 0 0 0", b"", b"w 5 addfd-result", b"frob")
     return [chance.choice(kinds) for _ in range(MANY)] + [b"report", b"script"]
@@ -66,7 +72,7 @@ def many_lines(chance, _):
 KINDS = {"random bytes": random_lines, "changed requests": changed_lines, "long lines": long_lines, f"{MANY} requests at once": many_lines}
 
 
-def trials(seed, folders):
+def trials(seed: int, folders: List[Tuple[str, Files]]) -> Iterator[Tuple[str, Files, List[bytes]]]:
     """Each trial: its name, the files, and the lines."""
     for name, draw in KINDS.items():
         for number in range(1 if draw is many_lines else ROUNDS):

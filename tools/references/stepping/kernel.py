@@ -4,7 +4,7 @@ from __future__ import annotations
 import struct
 from dataclasses import dataclass, field
 from functools import cached_property, partial
-from typing import Optional
+from typing import TYPE_CHECKING, Any, Dict, List, Optional, Tuple, Union
 
 from tools.commands.real_workloads.bpf import X86_64
 from tools.references.stepping import filters
@@ -12,6 +12,10 @@ from tools.references.stepping.facts import AT_FDCWD, CALL_NAMES, CONTINUE, SEND
 from tools.references.stepping.memory import Group
 from tools.references.stepping.rules import EFAULT, Mknod, Mount, OpenAt, SetXattr, base_of, kind_of, plan, request_of
 from tools.references.stepping.trees import EBADF, ENOENT, ENOSYS, EPERM, Tree, Walk
+
+if TYPE_CHECKING:
+    from tools.references.stepping.facts import Addfd
+    from tools.references.stepping.scripts import Instruction
 
 ESRCH, ECHILD, EAGAIN, EBUSY, EMFILE, EINPROGRESS, EDQUOT = 3, 10, 11, 16, 24, 115, 122
 SIGKILL, SIGNALS = 9, (9, 10, 12, 15)
@@ -104,20 +108,20 @@ class Kernel:
         self.make_task((0,), container.pidbase + 1, None, group, container.programs[-1], {})
         self.note("-", "spawn", (0,), (container.pidbase + 1, "new"))
 
-    def note(self, actor, kind, *facts):
+    def note(self, actor: str, kind: str, *facts: Any) -> Event:
         """Adds an event, and gives it."""
         self.events.append(Event(actor, kind, facts))
         return self.events[-1]
 
     # ---- tasks
 
-    def make_task(self, name, pid, parent, group, program, handlers):
+    def make_task(self, name: Tuple[int, ...], pid: int, parent: Optional[Task], group: Group, program: List[Instruction], handlers: Dict[Any, Any]) -> Task:
         task = Task(name, pid, parent, group, program, handlers)
         self.tasks[name] = self.holders[pid] = task
         self.last_pid = pid
         return task
 
-    def holder(self, pid):
+    def holder(self, pid: int) -> Optional[Task]:
         """The task that has a PID, or None."""
         task = self.holders.get(pid)
         return None if task is None or task.is_reaped else task
@@ -148,34 +152,34 @@ class Kernel:
             return None
         return partial(INSTRUCTIONS[instruction.word], self, task, *instruction.operands)
 
-    def step(self, task):
+    def step(self, task: Any) -> Any:
         """Makes a task's step; None where it can't step."""
         step = self.step_of(task)
         return step() if step else None
 
-    def able(self):
+    def able(self) -> List[Task]:
         """The tasks that can step, in the order in which they were made."""
         return [task for task in self.tasks.values() if self.step_of(task)]
 
-    def due_signal(self, task):
+    def due_signal(self, task: Task) -> Optional[int]:
         """The signal that is delivered next: SIGKILL first, and then the lowest."""
         if not task.pending:
             return None
         held = self.container.killable and task.call is not None and task.call.is_fetched
         return next((signal for signal in SIGNALS if signal in task.pending and (not held or task.is_fatal(signal))), None)
 
-    def resume(self, task):
+    def resume(self, task: Any) -> Any:
         call = task.call
         self.unlist(call)
         task.owes = call.back == CONTINUE
         return self.note(task.actor, "resume", call.back)
 
-    def unlist(self, call):
+    def unlist(self, call: Any) -> None:
         call.is_listed = False
         call.task.call = None
         self.calls.remove(call)
 
-    def deliver(self, task, signal):
+    def deliver(self, task: Task, signal: int) -> Event:
         task.pending.discard(signal)
         mode = "end" if task.is_fatal(signal) else task.handlers[signal]
         effect = mode if mode == "end" else "run" if task.call is None else "restart" if mode == "restart" else "eintr"
@@ -186,7 +190,7 @@ class Kernel:
         task.has_ended = effect == "end"
         return self.note(task.actor, "deliver", signal, effect)
 
-    def install(self, task):
+    def install(self, task: Any) -> Any:
         request = task.call.queue.pop(0)
         request.answer = self.place_for(task.group, request.asked)
         if not isinstance(request.answer, Fail):
@@ -195,7 +199,7 @@ class Kernel:
                 task.call.back = request.answer
         return self.note(task.actor, "install", request.answer)
 
-    def place_for(self, group, asked):
+    def place_for(self, group: Group, asked: Addfd) -> Union[Fail, int]:
         """The number at which a request is installed, or why it isn't."""
         if not asked.flags & SETFD:
             free = group.lowest_free(self.container.rlimit)
@@ -206,21 +210,21 @@ class Kernel:
 
     # ---- instructions
 
-    def exit(self, task):
+    def exit(self, task: Task) -> Event:
         task.has_ended = True
         return self.note(task.actor, "exit")
 
-    def poke(self, task, address, content):
+    def poke(self, task: Task, address: int, content: bytes) -> Event:
         task.at += 1
         task.group.write(address, content)
         return self.note(task.actor, "poke", address, content)
 
-    def set_handler(self, task, signal, mode):
+    def set_handler(self, task: Task, signal: int, mode: str) -> Event:
         task.at += 1
         task.handlers[signal] = mode
         return self.note(task.actor, "handler", signal, mode)
 
-    def enter(self, task, number, args):
+    def enter(self, task: Task, number: int, args: Tuple[int, int, int, int, int, int]) -> Event:
         task.at += 1
         task.entered = (number, args)
         verdict = filters.verdict(self.container.filters, number, args)
@@ -234,7 +238,7 @@ class Kernel:
         task.has_ended = verdict[0] == "kill"
         return self.note(task.actor, "call", number, args, verdict)
 
-    def start(self, task, program, shares):
+    def start(self, task: Task, program: int, shares: bool) -> Event:
         task.at += 1
         task.started += 1
         name, pid = (*task.name, task.started), self.next_pid()
@@ -244,7 +248,7 @@ class Kernel:
         task.children[task.started] = self.make_task(name, pid, task, group, self.container.programs[program], dict(task.handlers))
         return self.note(task.actor, "spawn", name, (pid, "share" if shares else "copy"))
 
-    def send_signal(self, task, whom, number, signal):
+    def send_signal(self, task: Task, whom: str, number: Optional[int], signal: int) -> Event:
         task.at += 1
         pid = self.addressed(task, whom, number)
         receiver = self.holder(pid)
@@ -259,12 +263,12 @@ class Kernel:
         meant = {"self": task, "parent": task.parent, "child": task.children.get(number)}[whom]
         return 0 if meant is None else meant.pid
 
-    def may_wait(self, task):
+    def may_wait(self, task: Task) -> bool:
         """Whether a wait has something to tell: a child that has ended, or that there is none."""
         left = [child for child in task.children.values() if not child.is_reaped]
         return not left or any(child.has_ended for child in left)
 
-    def wait(self, task):
+    def wait(self, task: Task) -> Event:
         task.at += 1
         ended = next((child for child in task.children.values() if child.has_ended and not child.is_reaped), None)
         if ended is None:
@@ -274,7 +278,7 @@ class Kernel:
 
     # ---- native calls
 
-    def run_natively(self, task):
+    def run_natively(self, task: Any) -> Any:
         task.owes = False
         return self.note(task.actor, "native", self.native(task, *task.entered))
 
@@ -299,7 +303,7 @@ class Kernel:
                 return texts[-1]
         return self.request_natively(group, request_of(number, args, texts), self.directory(group, base_of(number, args)))
 
-    def request_natively(self, group, request, base):
+    def request_natively(self, group: Any, request: Any, base: Optional[int]) -> Any:
         if isinstance(request, OpenAt):
             return self.open_natively(group, request, base)
         if isinstance(request, Mount):
@@ -319,7 +323,7 @@ class Kernel:
             return error.fail
         return Fail(EPERM)
 
-    def open_natively(self, group, request, base):
+    def open_natively(self, group: Group, request: OpenAt, base: Optional[int]) -> Union[Fail, int]:
         try:
             node = self.tree.walk(request.path, base, creates=False)
         except Walk as error:
@@ -350,14 +354,14 @@ class Kernel:
 
     # ---- what workers ask for
 
-    def worker(self, number):
+    def worker(self, number: int) -> Worker:
         return self.workers.setdefault(number, Worker())
 
     def named(self, identifier):
         """The listed call with an id, or None."""
         return next((call for call in self.calls if call.id == identifier), None)
 
-    def unfetched(self):
+    def unfetched(self) -> Optional[Call]:
         """The oldest call that wasn't received, where a receive would give one."""
         return next((call for call in self.calls if not call.is_fetched), None)
 
@@ -379,7 +383,7 @@ class Kernel:
         self.worker(number).memory = task.group
         return self.note(f"w{number}", "open-mem", pid, None)
 
-    def open_base(self, number, pid, dirfd):
+    def open_base(self, number: int, pid: int, dirfd: int) -> Any:
         task = self.holder(pid)
         if task is None or task.has_ended:
             return self.note(f"w{number}", "open-base", pid, dirfd, Fail(ESRCH))
@@ -397,7 +401,7 @@ class Kernel:
         memory = self.worker(number).memory
         return self.note(f"w{number}", "read", address, length, memory.read(address, length) if memory else Fail(EFAULT))
 
-    def act(self, number, request, is_spent=False):
+    def act(self, number: int, request: Union[Mknod, Mount, SetXattr], is_spent: bool = False) -> Event:
         """Does it, unless its rule has granted as often as it may."""
         return self.note(f"w{number}", "act", request, Fail(EDQUOT) if is_spent else self.tree.done(request, self.worker(number).base))
 
@@ -410,10 +414,10 @@ class Kernel:
         memory.write(address, content)
         return self.note(f"w{number}", "plant", address, content, None)
 
-    def put(self, number, asked):
+    def put(self, number: int, asked: Addfd) -> Event:
         return self.note(f"w{number}", "addfd-put", asked, self.put_answer(number, asked))
 
-    def put_answer(self, number, asked):
+    def put_answer(self, number: int, asked: Addfd) -> Optional[Fail]:
         if asked.srcfd not in self.container.broker:
             return Fail(EBADF)
         call = self.named(asked.id)
@@ -442,11 +446,11 @@ class Kernel:
             call.back = back
         return self.note(f"w{number}", "send", identifier, back, answer)
 
-    def let_go(self, number):
+    def let_go(self, number: int) -> Event:
         self.worker(number).memory = self.worker(number).base = None
         return self.note(f"w{number}", "let-go")
 
-    def close(self):
+    def close(self) -> Event:
         """Closes the listener: no call is listed any more, and nothing follows."""
         self.is_closed = True
         return self.note("listener", "close")

@@ -1,25 +1,26 @@
 """What `look` tells of the written kernel (docs/reference/STEP.md, A look). It changes nothing."""
 from __future__ import annotations
 
-from typing import TYPE_CHECKING
+from typing import TYPE_CHECKING, Any, Optional
 
 from tools.references.stepping.facts import ERROR_NAMES, Fail, quoted
 from tools.references.stepping.kernel import ESRCH
 from tools.references.stepping.trees import EEXIST, ENOENT, Walk
 
 if TYPE_CHECKING:
+    from tools.references.stepping.kernel import Kernel, Task
     from tools.references.stepping.trees import Tree
 
 NONE = "look none"
 
 
-def living(kernel, pid):
+def living(kernel: Kernel, pid: int) -> Optional[Task]:
     """The task that has a PID and hasn't ended, or None."""
     task = kernel.holder(pid)
     return None if task is None or task.has_ended else task
 
 
-def state_of(kernel, task):
+def state_of(kernel: Kernel, task: Task) -> str:
     """How a task is, by the words of /proc/PID/status."""
     if task.has_ended:
         return "zombie"
@@ -28,7 +29,7 @@ def state_of(kernel, task):
     return "disk-sleep" if kernel.container.killable and task.call is not None and task.call.is_fetched else "sleeping"
 
 
-def look_at_pid(kernel, pid):
+def look_at_pid(kernel: Kernel, pid: int) -> str:
     task = kernel.holder(pid)
     if task is None:
         return NONE
@@ -42,7 +43,7 @@ def node_line(tree: Tree, at: int) -> str:
     return f"look node {at} {node.kind}{behind}"
 
 
-def look_at_descriptor(kernel, pid, number):
+def look_at_descriptor(kernel: Kernel, pid: int, number: int) -> str:
     task = living(kernel, pid)
     slot = task.group.slots.get(number) if task else None
     if slot is None:
@@ -52,7 +53,7 @@ def look_at_descriptor(kernel, pid, number):
     return "look console" if slot[0] == "console" else f"look file {slot[1]}"
 
 
-def unfollowed(tree, path, base):
+def unfollowed(tree: Any, path: bytes, base: int) -> Optional[int]:
     """The node to which a path leads whose last component isn't followed. Raises Walk."""
     try:
         place = tree.walk(path, base, creates=True)
@@ -67,7 +68,7 @@ def unfollowed(tree, path, base):
     return found if tree.nodes[found].kind == "link" else tree.top(found)
 
 
-def look_at_path(kernel, pid, dirfd, path, how):
+def look_at_path(kernel: Any, pid: int, dirfd: int, path: bytes, how: str) -> str:
     task = living(kernel, pid)
     try:
         if task is None:
@@ -78,7 +79,7 @@ def look_at_path(kernel, pid, dirfd, path, how):
         return f"look error {ERROR_NAMES[error.fail.number]}"
 
 
-def look_at_listener(kernel):
+def look_at_listener(kernel: Kernel) -> str:
     received = [call.is_fetched for call in kernel.calls]
     waits = [call.is_waiting for call in kernel.calls]
     return f"look in={int(not all(received))} out={int(any(waits))}"

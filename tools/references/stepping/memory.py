@@ -1,7 +1,7 @@
 """Groups of tasks: an address space together with a table of descriptors (docs/KERNEL.md, Tasks)."""
 from __future__ import annotations
 
-from typing import Any, Dict, Optional, Set, Tuple
+from typing import Any, Dict, Optional, Set, Tuple, Union
 
 from tools.commands.real_workloads.script_text import PAGE
 from tools.references.stepping.facts import Fail
@@ -24,7 +24,7 @@ class Group:
     def is_mapped(self, address: int, length: int = 1) -> bool:
         return all(page in self.mapped for page in range(address // PAGE, (address + length - 1) // PAGE + 1))
 
-    def read(self, address, length):
+    def read(self, address: int, length: int) -> Union[Fail, bytes]:
         """The bytes from an address on, up to the first that isn't mapped; an error where that is the first."""
         if address // PAGE not in self.mapped:
             return Fail(EFAULT)
@@ -43,7 +43,7 @@ class Group:
             self.pages[page] = old[:offset] + part + old[offset + len(part):]
             address, content = address + len(part), content[len(part):]
 
-    def copy(self, part):
+    def copy(self, part: Any) -> Any:
         """A text of a call, as it is at this moment; or its error."""
         if not part.is_text and part.limit > VALUE_LIMIT:
             return Fail(E2BIG)

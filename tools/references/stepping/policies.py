@@ -1,12 +1,18 @@
 """A policy's bytes, read whole: its rules in the order in which they are tried, or the first refusal (docs/reference/POLICY.md, Policy)."""
+from __future__ import annotations
+
 import errno
 import json
 import re
+from typing import TYPE_CHECKING, Any, Dict, List, Optional, Tuple, Union
 
 from tools.commands.messages import policy_words as words
 from tools.commands.real_workloads.script_text import CALLS
 from tools.references.stepping.facts import AT_FDCWD, escaped, quoted
 from tools.references.stepping.rules import OTHER_CALLS, Rule, condition
+
+if TYPE_CHECKING:
+    from tools.references.stepping.rules import Condition
 
 SAFE_DEVICES = ((0, 0), (5, 1), (1, 7), (1, 3), (1, 8), (5, 0), (1, 9), (1, 5))
 IGNORED = ("bpf", "bpf.devices", "sched_setscheduler")
@@ -24,11 +30,11 @@ class Refused(Exception):
     """A policy that isn't taken; the text is what stands behind `policy: `."""
 
 
-def refuse_value(place):
+def refuse_value(place: str) -> None:
     raise Refused(f"bad value at {place}")
 
 
-def refuse_key(place):
+def refuse_key(place: str) -> None:
     raise Refused(f"unknown key at {place}")
 
 
@@ -39,11 +45,11 @@ def need(found, place):
     return found
 
 
-def quoted_key(key):
+def quoted_key(key: str) -> str:
     return quoted(key.encode())
 
 
-def text_in(value):
+def text_in(value: str) -> str:
     return value if isinstance(value, str) else None
 
 
@@ -52,7 +58,7 @@ def whole(value, least, most=MOST_NUMBER):
     return value if isinstance(value, int) and not isinstance(value, bool) and least <= value <= most else None
 
 
-def members(value, place):
+def members(value: Any, place: str) -> Any:
     """The members of an object, in the order of their keys' bytes."""
     if not isinstance(value, dict):
         refuse_value(place)
@@ -70,12 +76,12 @@ class Switches:
         self.mknod = self.mount = self.shift = self.setxattr = self.sysinfo = False
         self.fuse, self.allowed = {}, {}
 
-    def read(self, config):
+    def read(self, config: Dict[str, str]) -> None:
         for key, value in members(config, "config"):
             if key.startswith(words.PREFIX):
                 self.set(key[len(words.PREFIX):], f"config.{quoted_key(key)}", value)
 
-    def set(self, name, place, value):
+    def set(self, name: str, place: str, value: str) -> None:
         if name in IGNORED:
             if self.profile:
                 need(switch_of(text_in(value)), place)
@@ -88,12 +94,12 @@ class Switches:
         else:
             refuse_key(place)
 
-    def items(self, text):
+    def items(self, text: str) -> List[str]:
         if not self.profile:
             return [item for item in (it.strip(" ") for it in text.split(",")) if item]
         return [] if not text or text.startswith(",") else text.split(",")[::-1]
 
-    def file_systems(self, text):
+    def file_systems(self, text: str) -> Any:
         """The types of a list, each once; None where one is no name."""
         items = self.items(text)
         return dict.fromkeys(items) if self.profile or all(map(SHORT_NAME.fullmatch, items)) else None
@@ -113,17 +119,17 @@ class Switches:
 
     # ---- the rules
 
-    def rules(self):
+    def rules(self) -> List[Rule]:
         grants = [*self.mknod_rules(), *self.mount_rules(), *self.setxattr_rules(), *([plain("lxd.sysinfo", ("sysinfo",), (), "grant")] if self.sysinfo else [])]
         return grants + (self.reasons() if self.profile else [])
 
-    def mknod_rules(self):
+    def mknod_rules(self) -> List[Rule]:
         if not self.mknod:
             return []
         more = (condition("dirfd", AT_FDCWD), condition("short device")) if self.profile else ()
         return [plain(f"lxd.mknod.{major}:{minor}", ("mknod", "mknodat"), (condition("kind", "chr"), condition("dev", major, minor), *more), "grant") for major, minor in SAFE_DEVICES]
 
-    def mount_rules(self):
+    def mount_rules(self) -> List[Rule]:
         if not self.mount:
             return []
         found = []
@@ -131,17 +137,17 @@ class Switches:
             found += [mount_rule("lxd.mount.fuse.", fstype)._replace(via=program.encode(), shift=self.shift)] if program else self.type_rules(fstype)
         return found + [rule for fstype in self.allowed for rule in self.type_rules(fstype)]
 
-    def type_rules(self, fstype):
+    def type_rules(self, fstype: str) -> List[Rule]:
         """The rules of a type that the kernel mounts: none of what is no name."""
         if not SHORT_NAME.fullmatch(fstype):
             return []
         return [mount_rule("lxd.mount.", fstype, *([condition("flags", (), PROPAGATION)] if self.profile else []))._replace(shift=self.shift)]
 
-    def setxattr_rules(self):
+    def setxattr_rules(self) -> List[Rule]:
         more = (condition("value", b"y"),) if self.profile else ()
         return [plain("lxd.setxattr.opaque", ("setxattr",), (condition("name", b"trusted.overlay.opaque"), *more), "grant")] if self.setxattr else []
 
-    def reasons(self):
+    def reasons(self) -> List[Rule]:
         """Why LXD passes what its rules don't grant."""
         found = []
         if self.mknod:
@@ -161,16 +167,16 @@ def switch_of(text):
     return True if lower in words.ON else False if lower in words.OFF else None
 
 
-def mount_rule(front, fstype, *more):
+def mount_rule(front: str, fstype: str, *more: Condition) -> Rule:
     """The rule that grants mounts of a type."""
     return Rule(front + escaped(fstype.encode()), ("mount",), (condition("fstype", fstype.encode()), PLAIN_MOUNT, *more), "grant")
 
 
-def plain(name, calls, conditions=(), verdict="pass"):
+def plain(name: str, calls: Union[Tuple[str, ...], str], conditions: Tuple[Condition, ...] = (), verdict: str = "pass") -> Rule:
     return Rule(name, calls, tuple(conditions), verdict)
 
 
-def defaults():
+def defaults() -> List[Rule]:
     return [plain(f"default.{name}", (name,)) for name in CALLS] + [plain("default.other", OTHER_CALLS)]
 
 
@@ -197,7 +203,7 @@ class RuleReader:
         granted_mount = verdict == "grant" and "mount" in calls
         return Rule(name, calls, (*conditions, PLAIN_MOUNT) if granted_mount else conditions, verdict, times=self.stated.get("times"), **self.details)
 
-    def test(self, name, calls, verdict, conditions):
+    def test(self, name: str, calls: Tuple[str, ...], verdict: str, conditions: Tuple[Condition, ...]) -> None:
         """The tests of the rule as a whole."""
         if any(call not in words.ANSWERS[verdict].calls for call in calls):
             refuse_value(f"{self.place}.then")
@@ -209,7 +215,7 @@ class RuleReader:
         if name in self.used:
             refuse_value(f"{self.place}.name")
 
-    def read_name(self, value):
+    def read_name(self, value: str) -> None:
         text = text_in(value)
         fits = text is not None and RULE_NAME.fullmatch(text) and not text.startswith(("lxd.", "default."))
         self.stated["name"] = need(text if fits else None, f"{self.place}.name")
@@ -222,10 +228,10 @@ class RuleReader:
         else:
             refuse_value(f"{self.place}.call")
 
-    def read_times(self, value):
+    def read_times(self, value: int) -> None:
         self.stated["times"] = need(whole(value, 1), f"{self.place}.times")
 
-    def read_then(self, value):
+    def read_then(self, value: Any) -> None:
         place = f"{self.place}.then"
         if isinstance(value, dict):
             for key, member in members(value, place):
@@ -241,7 +247,7 @@ class RuleReader:
     def read_when(self, value):
         self.stated["conditions"] = tuple(self.condition(key, member) for key, member in members(value, f"{self.place}.when"))
 
-    def condition(self, key, value):
+    def condition(self, key: str, value: Union[Dict[str, List[str]], int, str]) -> Optional[Condition]:
         known = words.CONDITIONS.get(key)
         if known is None or (known.profile and not self.profile):
             refuse_key(f"{self.place}.when.{quoted_key(key)}")
@@ -281,7 +287,7 @@ def condition_of(key, value):
     return condition(key, value.encode())
 
 
-def is_for(stated, call):
+def is_for(stated: Condition, call: str) -> bool:
     known = words.CONDITIONS[stated.name]
     return call in known.calls and (stated.name != "flags" or all(flag in words.FLAGS[call] for flags in stated.values for flag in flags))
 
@@ -293,7 +299,7 @@ def refuse_constant(name):
     raise ValueError(name)
 
 
-def value_of(data):
+def value_of(data: bytes) -> Optional[Dict[str, Any]]:
     try:
         return json.loads(data.decode(), parse_constant=refuse_constant)
     except (ValueError, RecursionError):

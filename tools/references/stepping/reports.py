@@ -2,10 +2,14 @@
 from __future__ import annotations
 
 from dataclasses import dataclass, field
-from typing import Any, Optional, Tuple
+from typing import TYPE_CHECKING, Any, List, Optional, Tuple, Union
 
 from tools.references.stepping.facts import CONTINUE, SEND, SETFD, Fail, call_text, error_text, escaped, hex_or_dash, major_of, minor_of, number_text, quoted, result_text
 from tools.references.stepping.rules import Copy, Mknod, Mount, decide, kind_of, request_of
+
+if TYPE_CHECKING:
+    from tools.references.stepping.facts import Addfd, Event
+    from tools.references.stepping.rules import Rule, SetXattr
 
 EINTR, ENOENT, ESRCH, EDQUOT, ENOSYS = 4, 2, 3, 122, 38
 VERDICTS = {"deny": "denied", "grant": "granted", "pass": "passed", "inject": "injected"}
@@ -23,7 +27,7 @@ def node_text(mode: int, device: int) -> str:
     return f"{kind} {major_of(low)}:{minor_of(low)}" if kind in ("chr", "blk") else kind
 
 
-def request_text(request):
+def request_text(request: Union[Mknod, Mount, SetXattr]) -> str:
     """What a worker asks to be done."""
     if isinstance(request, Mknod):
         maker = "mknod" if request.dirfd is None else f"mknodat {request.dirfd}"
@@ -39,19 +43,19 @@ def verdict_text(verdict: Tuple[Any, ...]) -> str:
     return {"notify": "notify id={}", "errno": "errno={}"}.get(verdict[0], verdict[0]).format(*verdict[1:])
 
 
-def back_text(back):
+def back_text(back: Any) -> str:
     return back if back == CONTINUE else number_text(back)
 
 
-def spawn_text(name, answer):
+def spawn_text(name: Tuple[int, ...], answer: Union[Fail, Tuple[int, str]]) -> str:
     return f"spawn {name_text(name)} " + (error_text(answer.number) if isinstance(answer, Fail) else "pid={} {}".format(*answer))
 
 
-def read_text(address, length, answer):
+def read_text(address: int, length: int, answer: Union[Fail, bytes]) -> str:
     return f"read {address} {length} " + (error_text(answer.number) if isinstance(answer, Fail) else hex_or_dash(answer.rstrip(b"\0")))
 
 
-def asked_text(asked):
+def asked_text(asked: Addfd) -> str:
     """A request for a descriptor."""
     place, sending = asked.newfd if asked.flags & SETFD else "-", "" if asked.flags & SEND else " nosend"
     return f"{asked.id} src={asked.srcfd} at={place}{sending}"
@@ -198,7 +202,7 @@ class Tables:
         for place, event in enumerate(events):
             self.take(place, event)
 
-    def take(self, place, event):
+    def take(self, place: int, event: Event) -> None:
         if event.actor[0] == "w":
             self.take_of_worker(place, event)
         elif event.kind == "call":
@@ -208,7 +212,7 @@ class Tables:
         if event.kind == "spawn" and not isinstance(event.facts[1], Fail):
             self.pids["t" + name_text(event.facts[0])] = event.facts[1][0]
 
-    def enter(self, place, event):
+    def enter(self, place: int, event: Event) -> None:
         number, _, verdict = event.facts
         entry = CallEntry(place, event.actor, self.pids[event.actor], number, verdict[1] if verdict[0] == "notify" else None, outcome_at_entry(verdict))
         self.calls.append(entry)
@@ -216,7 +220,7 @@ class Tables:
         if entry.id is not None:
             self.with_id[entry.id] = entry
 
-    def take_in_call(self, entry, event):
+    def take_in_call(self, entry: CallEntry, event: Event) -> None:
         if entry.outcome:
             return
         if event.kind == "install":
@@ -227,7 +231,7 @@ class Tables:
                 self.answered += sends
         entry.outcome = outcome_by(event.kind, event.facts)
 
-    def take_of_worker(self, place, event):
+    def take_of_worker(self, place: int, event: Event) -> None:
         if event.kind == "recv" and not isinstance(event.facts[0], Fail):
             notif = event.facts[0]
             self.open[event.actor] = Session(place, event.actor, notif, self.with_id[notif.id], Copy(notif.number, notif.args))
@@ -242,7 +246,7 @@ class Tables:
             asked = event.facts[0]
             self.with_id[asked.id].requests.append(bool(asked.flags & SEND))
 
-    def summary(self, events, rules):
+    def summary(self, events: List[Event], rules: List[Rule]) -> str:
         counts = dict.fromkeys(("granted", "denied", "passed", "injected", "faults", "gone"), 0)
         for session in self.sessions:
             verdict = session.judged(rules)[1]
@@ -256,7 +260,7 @@ class Tables:
         return "summary " + " ".join(f"{name}={count}" for name, count in told.items())
 
 
-def report(events, rules):
+def report(events: List[Event], rules: List[Rule]) -> str:
     """The report of events under these rules."""
     tables = Tables(events)
     lines = [

@@ -70,7 +70,7 @@ class Text(NamedTuple):
             return "wrong form"
         return "out of range" if b"\0" in token.content and not self.zeros else None
 
-    def value(self, token):
+    def value(self, token: Any) -> bytes:
         return token.content
 
 
@@ -79,7 +79,7 @@ class Word(NamedTuple):
 
     texts: tuple
 
-    def reason(self, token):
+    def reason(self, token: Token) -> Optional[str]:
         return "wrong form" if token.is_quoted else None if token.text in self.texts else "unknown name"
 
     def value(self, token: Token) -> str:
@@ -87,7 +87,7 @@ class Word(NamedTuple):
 
 
 class TaskName:
-    def reason(self, token):
+    def reason(self, token: Token) -> Optional[str]:
         return "wrong form" if token.is_quoted else None if is_task(token.text) else "bad number"
 
     def value(self, token: Token) -> Tuple[int, ...]:
@@ -208,13 +208,13 @@ def seat_reason(token):
     return "out of range" if not token.is_quoted and (number_of(token.text) or 0) > MOST_WORKER else None
 
 
-def read_request(line):
+def read_request(line: bytes) -> Optional[Asked]:
     """The request that a line is, without its newline; None of one without a token. Raises LineFault."""
     return short_request(line) if len(line) <= MOST_KEPT else request_in(line)
 
 
 @lru_cache(KEPT)
-def short_request(line):
+def short_request(line: bytes) -> Optional[Asked]:
     """The same of a short line, of which sessions have the same again and again."""
     return request_in(line)
 

@@ -2,7 +2,7 @@
 from __future__ import annotations
 
 import errno
-from typing import NamedTuple, Optional, Tuple
+from typing import Any, NamedTuple, Optional, Tuple, Union
 
 from tools.commands.messages import policy_words as words
 from tools.commands.real_workloads.script_text import NAME_LIMIT, PATH_LIMIT, PIECE, VALUE_LIMIT
@@ -101,15 +101,15 @@ class Part(NamedTuple):
     is_text: bool
 
 
-def text_at(address, limit, fault):
+def text_at(address: int, limit: int, fault: int) -> Part:
     return Part(address, limit, fault, True)
 
 
-def option_at(address):
+def option_at(address: int) -> Part:
     return text_at(address, PATH_LIMIT, EINVAL) if address else Part(0, 0, 0, False)
 
 
-def plan(number, args):
+def plan(number: int, args: Any) -> Any:
     """What is read for a call, in order."""
     call = CALL_NAMES.get(number)
     if call == "mknod":
@@ -207,11 +207,11 @@ class Rule(NamedTuple):
         return f" src={self.source} at={'-' if self.place is None else self.place}" if self.verdict == "inject" else ""
 
 
-def condition(name, *values):
+def condition(name: str, *values: Any) -> Condition:
     return Condition(name, values)
 
 
-def call_of(request):
+def call_of(request: Any) -> Optional[str]:
     """The name of a request's call; None of a call without one."""
     if isinstance(request, Mknod):
         return "mknod" if request.dirfd is None else "mknodat"
@@ -228,7 +228,7 @@ def lies_under(path: bytes, directory: bytes) -> bool:
     return path is not None and path.startswith(directory + b"/") and b".." not in path.split(b"/")
 
 
-def device_of(request):
+def device_of(request: Mknod) -> Optional[Tuple[int, int]]:
     """The numbers of the device that is asked for, of a request for one."""
     if isinstance(request, Mknod) and kind_of(request.mode) in ("chr", "blk"):
         low = request.device % 2**32
@@ -236,7 +236,7 @@ def device_of(request):
     return None
 
 
-def dirfd_of(request):
+def dirfd_of(request: Union[Mknod, OpenAt]) -> int:
     found = getattr(request, "dirfd", AT_FDCWD) if isinstance(request, (Mknod, OpenAt)) else None
     return AT_FDCWD if isinstance(request, Mknod) and found is None else found
 
@@ -248,7 +248,7 @@ def flags_of(request):
     return request.flags
 
 
-def has_flag(request, flag):
+def has_flag(request: Union[Mount, SetXattr], flag: str) -> bool:
     call = "mount" if isinstance(request, Mount) else "setxattr" if isinstance(request, SetXattr) else None
     return call is not None and flag in words.FLAGS[call] and flags_of(request) & BITS[flag] != 0
 
@@ -269,7 +269,7 @@ MEETS = {
 }
 
 
-def covers(rule, request):
+def covers(rule: Any, request: Any) -> bool:
     """Whether the request's call is one of the rule's."""
     call = call_of(request)
     return call is None if rule.calls == OTHER_CALLS else call in rule.calls
@@ -279,10 +279,10 @@ def meets(request, stated):
     return MEETS[stated.name](request, *stated.values)
 
 
-def fits(rule, request):
+def fits(rule: Rule, request: Any) -> bool:
     return covers(rule, request) and all(meets(request, it) for it in rule.conditions)
 
 
-def decide(rules, request):
+def decide(rules: Any, request: Any) -> Any:
     """The first rule that fits; the defaults leave no request without one."""
     return next(rule for rule in rules if fits(rule, request))

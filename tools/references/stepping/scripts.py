@@ -3,7 +3,7 @@ from __future__ import annotations
 
 from collections import namedtuple
 from dataclasses import dataclass, field
-from typing import TYPE_CHECKING, Iterator, Optional, Set
+from typing import TYPE_CHECKING, Any, Callable, Iterator, Optional, Set, Type, Union
 
 from tools.commands.messages import operands
 from tools.commands.messages import script_words as words
@@ -133,38 +133,38 @@ class Reader:
 
     # ---- the settings
 
-    def node_reasons(self, line):
+    def node_reasons(self, line: Any) -> Iterator[Any]:
         path = line.operands[0].content
         parent = path.rpartition(b"/")[0] or b"/"
         if path in self.paths or parent not in self.paths or self.container.nodes[self.paths[parent]].kind != "dir":
             yield "bad path"
         yield from self.tree_limit()
 
-    def tree_limit(self):
+    def tree_limit(self) -> Iterator[Any]:
         if self.tree_lines >= MOST_TREE_LINES:
             yield "too large"
 
-    def attr_reasons(self, line):
+    def attr_reasons(self, line: Line) -> Iterator[Any]:
         if line.operands[0].content not in self.paths:
             yield "bad path"
         yield from self.tree_limit()
 
-    def root_reasons(self, line):
+    def root_reasons(self, line: Line) -> Iterator[Any]:
         path = line.operands[0].content
         if path not in self.paths or self.container.nodes[self.paths[path]].kind != "dir":
             yield "bad path"
 
-    def pidbase_reasons(self, line):
+    def pidbase_reasons(self, line: Line) -> Iterator[Any]:
         if number(line, 0) + self.container.pidmax > words.GREATEST_PID:
             yield "out of range"
 
-    def broker_reasons(self, line):
+    def broker_reasons(self, line: Line) -> Iterator[Any]:
         if number(line, 0) in self.container.broker:
             yield "duplicate"
         if len(self.container.broker) >= MOST_BROKER:
             yield "too large"
 
-    def map_reasons(self, line):
+    def map_reasons(self, line: Line) -> Iterator[Any]:
         start, count = number(line, 0), number(line, 1)
         end = start + count * PAGE
         if end > operands.END_OF_ADDRESSES or any(start < other + pages * PAGE and other < end for other, pages in self.container.ranges):
@@ -187,30 +187,30 @@ class Reader:
 
     # ---- the programs and the schedule
 
-    def prog_reasons(self, line):
+    def prog_reasons(self, line: Line) -> Iterator[Any]:
         if line.operands[0].text in self.program_places:
             yield "duplicate"
         if len(self.container.programs) >= MOST_PROGRAMS:
             yield "too large"
 
-    def start_reasons(self, line):
+    def start_reasons(self, line: Line) -> Iterator[Any]:
         if line.operands[0].text not in self.program_places:
             yield "unknown name"
 
-    def store_reasons(self, line):
+    def store_reasons(self, line: Any) -> Iterator[Any]:
         start = number(line, 0)
         length = len(line.operands[1].content) if line.word == "poke" else number(line, 1)
         pages = self.container.pages
         if any(page not in pages for page in range(start // PAGE, (start + length - 1) // PAGE + 1)):
             yield "unmapped"
 
-    def step_reasons(self, line):
+    def step_reasons(self, line: Line) -> Iterator[Any]:
         if line.word == "w" and self.workers.get(number(line, 0), kind_of(line)) is not kind_of(line):
             yield "out of place"
         if self.steps + count_of(line) > MOST_STEPS:
             yield "too large"
 
-    def end_reasons(self, line):
+    def end_reasons(self, line: Line) -> Iterator[Any]:
         block = self.script.open
         if block.kind == FILTER and filters.fault_of([instruction_of(it) for it in block.lines]):
             yield "bad filter"
@@ -228,7 +228,7 @@ class Reader:
 
     # ---- what a line states
 
-    def take(self, line):
+    def take(self, line: Line) -> None:
         """Notes what a line states that shows no reason."""
         block = self.script.open
         if line.word in SETTERS:
@@ -241,7 +241,7 @@ class Reader:
             self.container.programs.append([self.instruction(it) for it in block.lines])
         self.script.take(line)
 
-    def take_node(self, line):
+    def take_node(self, line: Any) -> None:
         path = line.operands[0].content
         parent, _, name = path.rpartition(b"/")
         device = (number(line, 1), number(line, 2)) if line.word in ("chr", "blk") else None
@@ -250,7 +250,7 @@ class Reader:
         self.paths[path] = len(self.container.nodes)
         self.container.nodes.append(Node(self.paths[parent or b"/"], name, line.word, device, target))
 
-    def take_attr(self, line):
+    def take_attr(self, line: Line) -> None:
         path, name, value = (it.content for it in line.operands)
         self.tree_lines += 1
         self.container.attributes[self.paths[path], name] = value
@@ -307,12 +307,12 @@ def count_of(line: Line) -> int:
     return 1 if is_asking(line.tokens) or len(line.operands) == 1 else number(line, 1)
 
 
-def kind_of(line):
+def kind_of(line: Line) -> Union[Type[Asked], Type[WorkerSteps]]:
     """What a worker's line is: a count of steps, or a request."""
     return Asked if is_asking(line.tokens) else WorkerSteps
 
 
-def scheduled_by(line):
+def scheduled_by(line: Any) -> Any:
     """What a line of the schedule states."""
     if is_asking(line.tokens):
         return read_tokens(line.tokens)
@@ -330,13 +330,13 @@ def fault_of(line):
     return None
 
 
-def instruction_of(line):
+def instruction_of(line: Any) -> Any:
     """An instruction of a filter: its word, K, JT and JF."""
     values = [number_of(it.text) for it in line.operands]
     return (line.word, *values, *[0] * (3 - len(values)))
 
 
-def setter(name):
+def setter(name: str) -> Callable[..., Any]:
     return lambda reader, line: setattr(reader.container, name, number(line, 0))
 
 
@@ -358,13 +358,13 @@ SETTERS = {
 }
 
 
-def lines_of(data):
+def lines_of(data: bytes) -> Iterator[Any]:
     """The lines of a text with their numbers; what stands behind the last newline is one where it has a byte."""
     lines = data.split(b"\n")
     return enumerate(lines[:-1] if not lines[-1] else lines, 1)
 
 
-def read_script(data):
+def read_script(data: bytes) -> Optional[Container]:
     """The container that a script describes. Raises Refused."""
     reader = Reader()
     for place, raw in lines_of(data):

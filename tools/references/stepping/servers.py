@@ -2,11 +2,15 @@
 from __future__ import annotations
 
 from collections import Counter
-from typing import Any, Optional, Tuple
+from typing import TYPE_CHECKING, Any, Optional, Tuple, Union
 
 from tools.references.stepping.facts import CONTINUE, O_CLOEXEC, SEND, SETFD, Addfd, Fail
 from tools.references.stepping.kernel import EMFILE, ENOENT, ESRCH, Kernel
 from tools.references.stepping.rules import Copy, Mount, OpenAt, Sysinfo, base_of, decide, request_of
+
+if TYPE_CHECKING:
+    from tools.references.stepping.facts import Event
+    from tools.references.stepping.rules import Rule
 
 EFFECTS = ("act", "plant")
 # in the place of an answer that there isn't yet
@@ -22,11 +26,11 @@ class Serving:
         self.is_over = False
 
     @property
-    def request(self):
+    def request(self) -> Any:
         """What the call asks for, by the whole copy of its texts."""
         return request_of(self.notif.number, self.notif.args, self.copy.texts)
 
-    def take(self, kind, answer):
+    def take(self, kind: str, answer: Any) -> None:
         """Notes an answer."""
         self.answers[kind] = answer
         self.checks += kind == "check"
@@ -35,7 +39,7 @@ class Serving:
         self.is_over |= gives_up(kind, answer)
 
 
-def gives_up(kind, answer):
+def gives_up(kind: str, answer: Optional[Union[Fail, bytes, int]]) -> bool:
     """Whether nothing is left to do for the notification but to let go of it: it is answered, or nobody waits for an answer."""
     error = answer.number if isinstance(answer, Fail) else None
     if kind in ("open-mem", "open-base"):
@@ -54,7 +58,7 @@ class Servers:
         self.rules, self.kernel = rules, kernel
         self.servings, self.spent = {}, Counter()
 
-    def step(self, number):
+    def step(self, number: int) -> Any:
         """Makes the step that a worker has next; None where there is none, or what it has open and asked for doesn't allow it."""
         deed, *operands = self.next_deed(self.servings.get(number))
         if deed in ALLOWED and not ALLOWED[deed](self.kernel.worker(number)):
@@ -64,7 +68,7 @@ class Servers:
             self.take(number, event)
         return event
 
-    def take(self, number, event):
+    def take(self, number: int, event: Event) -> None:
         """Notes what came of a step."""
         answer = event.facts[-1] if event.facts else None
         if event.kind == "recv" and not isinstance(answer, Fail):
@@ -95,13 +99,13 @@ class Servers:
             return Kernel.check, notif.id
         return (Kernel.send, notif.id, serving.copy.fault) if serving.copy.fault else self.decided(serving, self.rule_for(serving))
 
-    def rule_for(self, serving):
+    def rule_for(self, serving: Serving) -> Rule:
         return decide(self.rules, serving.request)
 
-    def place_of(self, rule):
+    def place_of(self, rule: Rule) -> int:
         return self.rules.index(rule)
 
-    def decided(self, serving, rule):
+    def decided(self, serving: Serving, rule: Rule) -> Tuple[Any, ...]:
         """What a rule makes of the call."""
         if rule.verdict == "grant":
             return self.granted(serving, rule)
@@ -109,7 +113,7 @@ class Servers:
             return injected(serving, rule)
         return Kernel.send, serving.notif.id, CONTINUE if rule.verdict == "pass" else Fail(rule.error)
 
-    def granted(self, serving, rule):
+    def granted(self, serving: Serving, rule: Rule) -> Tuple[Any, ...]:
         """The effect; and then its outcome, as the answer."""
         done = next((serving.answers[kind] for kind in EFFECTS if kind in serving.answers), UNDONE)
         if done is not UNDONE:
@@ -120,7 +124,7 @@ class Servers:
         return Kernel.act, request._replace(via=rule.via, shift=rule.shift) if isinstance(request, Mount) else request, is_spent
 
 
-def injected(serving, rule):
+def injected(serving: Serving, rule: Rule) -> Tuple[Any, ...]:
     """A descriptor, put in as the call's result; then what came of that; and an error as the answer, where nothing was installed."""
     put = serving.answers.get("addfd-put", UNDONE)
     if put is UNDONE:

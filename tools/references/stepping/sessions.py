@@ -2,6 +2,7 @@
 from __future__ import annotations
 
 import struct
+from typing import Any, Callable, Optional
 
 from tools.references.judging.judge import Judge
 from tools.references.stepping.facts import CONTINUE, O_CLOEXEC, SEND, SETFD, Addfd, Fail
@@ -22,7 +23,7 @@ class Refused(Exception):
 
 
 class Session:
-    def __init__(self, rules, container, decided=None):
+    def __init__(self, rules: Any, container: Any, decided: Any = None) -> None:
         """`decided` is the judge's."""
         self.rules, self.kernel = rules, Kernel(container)
         self.judge = Judge(self.kernel, rules, decided)
@@ -55,7 +56,7 @@ class Session:
         """What comes of a worker's request. Raises Refused."""
         return OF_WORKERS[asked.word](self, asked.worker, *asked.operands)
 
-    def told(self, event):
+    def told(self, event: Any) -> str:
         """The line of the newest event; `skip` where there is none."""
         return SKIP if event is None else line_of(len(self.kernel.events) - 1, event)
 
@@ -64,7 +65,7 @@ class Session:
     def report(self) -> str:
         return report(self.kernel.events, self.rules)
 
-    def script(self):
+    def script(self) -> str:
         """The script that plays these events again."""
         text = script_text(self.kernel.container.front, self.kernel.events)
         if len(self.kernel.events) > MOST_EVENTS + self.kernel.is_closed or len(text) > MOST_BYTES:
@@ -83,7 +84,7 @@ class Session:
         receives = ["recv"] if self.kernel.received < self.kernel.entered_calls else []
         return " ".join(["able", *names, *receives])
 
-    def step(self, name):
+    def step(self, name: Any) -> Optional[str]:
         if name not in self.kernel.tasks:
             raise Refused("no task")
         return self.told(self.kernel.step(self.kernel.tasks[name]))
@@ -112,18 +113,18 @@ class Session:
         found = event.facts[2]
         return self.told(event) if isinstance(found, Fail) else f"{self.told(event)} bytes={found.hex() or '-'}"
 
-    def plant(self, number, address, content):
+    def plant(self, number: int, address: int, content: bytes) -> Optional[str]:
         if self.kernel.worker(number).memory is None:
             raise Refused("no memory is open")
         return self.told(self.kernel.plant(number, address, content))
 
-    def put(self, number, *fields):
+    def put(self, number: int, *fields: int) -> Optional[str]:
         if self.kernel.worker(number).request is not None:
             raise Refused("request is put")
         asked = Addfd(*fields)
         return self.told(self.kernel.put(number, asked)) if may_be_put(asked) else INVALID
 
-    def take(self, number):
+    def take(self, number: int) -> Optional[str]:
         if self.kernel.worker(number).request is None:
             raise Refused("no request")
         return self.told(self.kernel.take(number))
@@ -135,7 +136,7 @@ class Session:
         return self.told(self.kernel.send(number, identifier, back))
 
 
-def may_be_put(asked):
+def may_be_put(asked: Addfd) -> bool:
     """Whether the listener takes a request for a descriptor."""
     known = asked.flags & ~(SETFD | SEND) == 0 and asked.newfd_flags in (0, O_CLOEXEC)
     return known and (asked.newfd == 0 or asked.flags & SETFD != 0)
@@ -146,7 +147,7 @@ def may_be_sent(value: int, error: int, flags: int) -> bool:
     return (value, error) == (0, 0) if flags == CONTINUE_FLAG else flags == 0 and LOWEST_ERROR <= error <= 0
 
 
-def told_by(deed):
+def told_by(deed: Callable[..., Any]) -> Callable[..., Any]:
     """A request that comes to an event each time."""
     return lambda session, number, *operands: session.told(deed(session.kernel, number, *operands))
 

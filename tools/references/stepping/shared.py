@@ -1,4 +1,8 @@
 """The report of a play, led again by workers of two brokers: the steps of one are counted, and what the others did is asked for."""
+from __future__ import annotations
+
+from typing import Iterator, Optional, Tuple
+
 from tools.commands.container_tree import tokens
 from tools.references.stepping.drawn_schedules import with_lines
 from tools.references.stepping.replay import request_of
@@ -22,7 +26,7 @@ def with_two_workers(report):
     return "\n".join(lines)
 
 
-def shared_again(front, report, planted):
+def shared_again(front: bytes, report: str, planted: bytes) -> Iterator[Tuple[str, bytes]]:
     """Each worker of a report that has several, and the script in which this one's steps are counted, and the others are asked for. A skip of the others has no line."""
     count = int(report.split("\n", 1)[0].split()[1])
     events = [line.split(" ", 2)[1:] for line in report.split("\n")[2:count + 1]]
@@ -34,7 +38,7 @@ def shared_again(front, report, planted):
         yield own, with_lines(front, lines)
 
 
-def line_of(actor, words, own, planted):
+def line_of(actor: str, words: str, own: str, planted: bytes) -> Optional[str]:
     """The line of an event: of a task or the own worker a step, and of another worker what it asked for; none of the close."""
     if actor[0] == "t" or actor == own:
         return f"{actor[0]} {actor[1:]}"

@@ -1,7 +1,7 @@
 """The container's tree: nodes, attributes and mounts, and how paths are walked over it (docs/KERNEL.md; path_resolution(7))."""
 from __future__ import annotations
 
-from typing import List, Optional, Tuple
+from typing import Any, List, Optional, Tuple, Union
 
 from tools.references.stepping.facts import Fail, major_of, minor_of
 from tools.references.stepping.rules import Mknod, Mount, SetXattr, kind_of
@@ -54,7 +54,7 @@ class Tree:
             node = self.covered[node]
         return node
 
-    def walk(self, path, base, creates):
+    def walk(self, path: bytes, base: Optional[int], creates: bool) -> Optional[Union[Tuple[int, bytes], int]]:
         """The node to which a path leads; or the directory and the name of a new node. Raises Walk."""
         if not path:
             raise Walk(ENOENT)
@@ -95,7 +95,7 @@ class Tree:
 
     # ---- changes. Each answers None where it is done, and else the error
 
-    def done(self, request, base):
+    def done(self, request: Any, base: Optional[int]) -> Any:
         """Does what a request asks for."""
         change = {Mknod: self.make, Mount: self.mount, SetXattr: self.set_attribute}[type(request)]
         try:
@@ -112,7 +112,7 @@ class Tree:
         self.add(*place, kind, (major_of(low), minor_of(low)) if kind in ("chr", "blk") else None)
         return None
 
-    def new_place(self, path, base):
+    def new_place(self, path: bytes, base: Optional[int]) -> Any:
         place = self.walk(path, base, creates=True)
         if place in self.entries:
             raise Walk(EEXIST)
@@ -132,7 +132,7 @@ class Tree:
         self.nodes.append(Node(None, b"", "dir", None, None))
         return None
 
-    def set_attribute(self, request, base):
+    def set_attribute(self, request: SetXattr, base: Optional[int]) -> Optional[Fail]:
         if request.flags & ~ATTRIBUTE_FLAGS:
             return Fail(EINVAL)
         key = (self.walk(request.path, base, creates=False), request.name)

@@ -1,14 +1,22 @@
 """The script that plays a history again: behind the lines of the script itself a schedule with each step of a task and each request of a worker."""
+from __future__ import annotations
+
+from typing import TYPE_CHECKING, Any, List, Union
+
 from tools.commands.real_workloads.script_text import MOST_STEPS
 from tools.references.stepping.facts import CONTINUE, Fail, quoted
 from tools.references.stepping.rules import Mknod, Mount
+
+if TYPE_CHECKING:
+    from tools.references.stepping.facts import Event
+    from tools.references.stepping.rules import SetXattr
 
 # the container's start, and all steps of a schedule; the closing of the listener is one event more
 MOST_EVENTS = 1 + MOST_STEPS
 MOST_BYTES = 8_388_608
 
 
-def act_text(request):
+def act_text(request: Union[Mknod, Mount, SetXattr]) -> str:
     """A call that a worker makes itself, with its texts in place."""
     if isinstance(request, Mknod):
         maker = "mknod" if request.dirfd is None else f"mknodat {request.dirfd}"
@@ -20,7 +28,7 @@ def act_text(request):
     return f"setxattr {quoted(request.path)} {quoted(request.name)} {quoted(request.value)} {request.flags}"
 
 
-def back_text(back):
+def back_text(back: Any) -> str:
     """The value, the error and the flags of an answer."""
     return "0 0 1" if back == CONTINUE else f"0 -{back.number} 0" if isinstance(back, Fail) else f"{back} 0 0"
 
@@ -48,5 +56,5 @@ def turn_text(event):
     return f"w {event.actor[1:]} {ASKED[event.kind](*event.facts)}\n" if event.actor[0] == "w" else ""
 
 
-def script_text(front, events):
+def script_text(front: bytes, events: List[Event]) -> str:
     return front.decode("latin-1") + "schedule\n" + "".join(map(turn_text, events)) + "end\n"
