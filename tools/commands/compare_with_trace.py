@@ -1,6 +1,10 @@
 """Says what a policy made of each call of a trace, and where the play's answer isn't the one that the trace has. `./broker help compare-with-trace` has its words."""
+from __future__ import annotations
+
 import sys
+from argparse import Namespace
 from collections import Counter
+from typing import List, Optional, Tuple
 
 from tools.commands.command_line.arguments import Parser
 from tools.commands.command_line.ending import reason
@@ -12,7 +16,7 @@ WIDEST = 72
 HEADS = ("line", "process", "call", "traced", "play", "decided by", "difference")
 
 
-def words():
+def words() -> Optional[Namespace]:
     parser = Parser(TOOL)
     parser.add_argument("script", metavar="SCRIPT")
     parser.add_argument("report", metavar="REPORT")
@@ -20,7 +24,7 @@ def words():
     return parser.parse_args()
 
 
-def read(name, kind):
+def read(name: str, kind: str) -> str:
     """The text of a script or a report, with at most as many bytes as one has."""
     try:
         with open(name, "rb") as file:
@@ -32,13 +36,13 @@ def read(name, kind):
     return data.decode("latin-1").replace("\r\n", "\n")
 
 
-def row(made):
+def row(made: answers.Made) -> Tuple[str, ...]:
     call = f"{made.name}({answers.shown_arguments(made)})"
     call = call if len(call) <= WIDEST else call[:WIDEST - 3] + "..."
     return str(made.line), made.program, call, made.real, made.play or "-", made.by or "-", made.difference
 
 
-def table(rows):
+def table(rows: List[Tuple[str, ...]]) -> List[str]:
     """The rows in columns that are as wide as their widest text."""
     widths = [max(map(len, column)) for column in zip(*rows)]
     return ["  ".join(text.ljust(width) for text, width in zip(it, widths)).rstrip() for it in rows]

@@ -6,7 +6,7 @@ directory aren't told.
 from __future__ import annotations
 
 import re
-from typing import List
+from typing import Any, List, Optional
 
 MOST_LINKS = 40
 NODES = {"dir", "reg", "fifo", "sock", "chr", "blk", "link"}
@@ -61,7 +61,7 @@ class Tree:
     def entry(self, directory, name):
         return self.entries.get((directory, name))
 
-    def mounted_on(self, node):
+    def mounted_on(self, node: int) -> Optional[int]:
         """The root of the newest mount on a node."""
         return next((root for target, root in reversed(self.mounts) if target == node), None)
 
@@ -82,7 +82,7 @@ class Tree:
             node = covered
         return node
 
-    def walked(self, path, creates=False):
+    def walked(self, path: bytes, creates: bool = False) -> Any:
         """The node to which a path leads, or with `creates` the directory and the name of a new one; None where it leads nowhere."""
         parts, at, links = [part for part in path.split(b"/") if part], self.root, 0
         if not path:
@@ -121,7 +121,7 @@ class Tree:
         self.mounts.append((directory, root))
         return root
 
-    def setxattr(self, path, name, value):
+    def setxattr(self, path: bytes, name: bytes, value: bytes) -> int:
         """Sets an attribute of the node at a path, and gives the node."""
         node = self.walked(path)
         self.attrs[node, name] = value
@@ -165,7 +165,7 @@ def natively(tree: Tree, memory: Memory, actor: str, call: List[str]) -> None:
         tree.setxattr(memory.text(actor, at[0]), memory.text(actor, at[1]), memory.read(actor, at[2], at[3]))
 
 
-def acted(tree, words):
+def acted(tree: Any, words: Any) -> Any:
     """What a worker's request changed, which was done; and how to tell at the end whether it is out of sight, if it may be."""
     if words[0] in ("mknod", "mknodat"):
         dirfd = int(words[1]) if words[0] == "mknodat" else AT_FDCWD
@@ -183,7 +183,7 @@ def acted(tree, words):
     return None
 
 
-def fates(script, events):
+def fates(script: bytes, events: Any) -> Any:
     """What became of the effects of a report's events, by their places: ` covered` or ` replaced` where a later one took them from sight."""
     tree, memory, calls, kept = Tree(script), Memory(), {}, {}
     for place, (actor, words) in enumerate(events):

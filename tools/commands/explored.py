@@ -9,6 +9,7 @@ import re
 import subprocess
 import tempfile
 from pathlib import Path
+from typing import Any, List, Optional, Set, Tuple, Union
 
 from tools.commands.container_tree import fates
 
@@ -25,16 +26,16 @@ class NotPlayed(Exception):
 class Broker:
     """The program, a policy and a script, whose own schedule isn't looked at."""
 
-    def __init__(self, program, policy, script):
+    def __init__(self, program: str, policy: Union[Path, str], script: Union[Path, str]) -> None:
         self.program, self.policy = program, policy
         self.script = without_schedule(Path(script).read_bytes())
         self.file = tempfile.NamedTemporaryFile(suffix=".txt")
 
-    def report(self, lines):
+    def report(self, lines: List[str]) -> Report:
         """The report of a schedule, given by its lines."""
         return Report(self.played(lines))
 
-    def played(self, lines):
+    def played(self, lines: List[str]) -> str:
         """The same as a text."""
         text = self.script + b"schedule\n" + "".join(f"{line}\n" for line in lines).encode() + b"end\n"
         Path(self.file.name).write_bytes(text)
@@ -49,7 +50,7 @@ def has_requests(script):
     return REQUEST.search(script) is not None
 
 
-def without_schedule(script):
+def without_schedule(script: bytes) -> bytes:
     """A script's bytes without its schedule: its lines from a bare word `schedule` to `end` are dropped."""
     kept, inside = [], False
     for line in script.splitlines(keepends=True):
@@ -73,7 +74,7 @@ class Report:
         self.audit, at = self.part(lines, at)
 
     @staticmethod
-    def part(lines, at):
+    def part(lines: Any, at: int) -> Any:
         count = int(lines[at].split()[1])
         return [tuple(line.split(" ", 2)[1:]) for line in lines[at + 1:at + 1 + count]] if lines[at].startswith("journal") else [
             (int(line.split(" ", 1)[0]), line.split(" ", 1)[1]) for line in lines[at + 1:at + 1 + count]
@@ -91,12 +92,12 @@ def lines_of(path):
     return [f"{actor[0]} {actor[1:]} {count}" for actor, count in runs]
 
 
-def tasks_of(events):
+def tasks_of(events: List[Tuple[str, str]]) -> List[str]:
     """The tasks that got a number, in the order of their spawns."""
     return ["t" + words.split()[1] for _, words in events if words.startswith("spawn ") and "pid=" in words]
 
 
-def workers_in_hand(events):
+def workers_in_hand(events: List[Tuple[str, str]]) -> Set[str]:
     """The workers that have a notification in hand."""
     inside = set()
     for actor, words in events:
@@ -115,7 +116,7 @@ class Explorer:
         self.workers = [f"w{number}" for number in range(workers + 1)]
         self.found = []
 
-    def circle(self, events, last):
+    def circle(self, events: List[Tuple[str, str]], last: Optional[str]) -> List[str]:
         """The actors that may step, from the one that stepped last on: of the idle workers the lowest alone."""
         inside = workers_in_hand(events)
         idle = [worker for worker in self.workers if worker not in inside][:1]
@@ -135,7 +136,7 @@ class Explorer:
             order = order[order.index(steps[0][0]) + 1:]
         return able, report
 
-    def goes_on(self, path, actor):
+    def goes_on(self, path: List[str], actor: str) -> List[Tuple[str, str]]:
         """The events by which an actor goes on after a path, until it can't step, or lets go of a notification; not all, if there are many."""
         gone = []
         for event in self.broker.report(lines_of(path + [actor] * 20)).events[len(path) + 1:-1]:

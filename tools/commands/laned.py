@@ -6,7 +6,10 @@ has none. The lanes are mknod with mknodat, mount, setxattr, sysinfo, openat, an
 
 Exit status: 0 where all are laned, 1 where one isn't, 2 where one can't be read.
 """
+from __future__ import annotations
+
 import sys
+from typing import Dict, Iterator, List, Tuple
 
 from tools.commands.command_line.arguments import ToolParser
 from tools.commands.messages.refusals import LIMITS
@@ -15,14 +18,14 @@ LANES = {name: name for name in (b"mknod", b"mount", b"setxattr", b"sysinfo", b"
 SEATS = [b"w%d" % seat for seat in range(16)]
 
 
-def journal(report):
+def journal(report: bytes) -> Iterator[Tuple[bytes, List[bytes], bytes]]:
     """The actors and steps of a report's journal, with their lines."""
     for line in report.split(b"\ncalls ", 1)[0].splitlines()[1:]:
         _, who, *step = line.split(b" ")
         yield who, step, line
 
 
-def may_step(who, sessions):
+def may_step(who: bytes, sessions: Dict[bytes, bytes]) -> bool:
     """Whether a worker may take a step: `sessions` has the lanes of the sessions that go on, in the order of their receives."""
     if who in sessions:
         return next(seat for seat, lane in sessions.items() if lane == sessions[who]) == who

@@ -9,6 +9,7 @@ import subprocess
 import sys
 import tempfile
 from argparse import Namespace
+from typing import Any, Optional, Tuple
 
 from tools.commands.command_line import place
 from tools.commands.command_line.arguments import Parser
@@ -34,7 +35,7 @@ def asked() -> Namespace:
     return parser.parse_args()
 
 
-def refusal(program, data):
+def refusal(program: str, data: bytes) -> Optional[Tuple[int, str]]:
     """The line and the reason of the program's refusal of a script, or None where it takes it."""
     with tempfile.TemporaryDirectory(prefix="lint-script-") as room:
         for name, content in (("policy.json", b"{}"), ("script.txt", data), ("report.txt", b"")):
@@ -53,7 +54,7 @@ def refusal(program, data):
     return None
 
 
-def findings(program, data, use):
+def findings(program: str, data: bytes, use: str) -> Any:
     """What is found: why the program refuses the script, or else what is likely a mistake where it is used so."""
     if len(data) > LIMITS["script"]:
         return [whole_file("too-long", f"a script has at most {LIMITS['script']} bytes", "")]
@@ -61,7 +62,7 @@ def findings(program, data, use):
     return [scripts.finding_of(data, *refused)] if refused else likely.findings(Text(data), use)
 
 
-def main():
+def main() -> Optional[int]:
     words = asked()
     try:
         with open(words.file, "rb") as file:

@@ -11,6 +11,8 @@
 Each file is made beside its place and then put there, so that no other process sees a part of one. Proving takes about an hour where nothing is
 proved yet, else some minutes. Exit status: 0, or 1 if a command isn't there or fails, as standard error says then.
 """
+from __future__ import annotations
+
 import os
 import shutil
 import subprocess
@@ -49,7 +51,7 @@ def write(path, text):
         file.write(text)
 
 
-def prove_archive():
+def prove_archive() -> None:
     """Has the archive of the library proved and built, unless it is of the sources as they are now."""
     if not os.path.exists(ARCHIVE) or checkout.is_newer_source(ARCHIVE):
         print("make-c-library: proving and building the library, in some minutes or, if nothing is proved yet, about an hour", file=sys.stderr, flush=True)

@@ -1,8 +1,11 @@
 """Makes the library that lets a broker as it is serve the written kernel, for `explore-broker --shim`. `./broker help make-shim` has its words."""
+from __future__ import annotations
+
 import os
 import subprocess
 import sys
 from pathlib import Path
+from typing import Optional
 
 from tools.commands.command_line import place
 from tools.commands.command_line.arguments import Parser
@@ -19,7 +22,7 @@ def usual():
     return TOP / "dist" / NAME if place.about() is None else Path(NAME)
 
 
-def asked():
+def asked() -> Optional[Path]:
     parser = Parser("make-shim")
     parser.add_argument("file", metavar="FILE", nargs="?", type=Path, help="the library that is written")
     return parser.parse_args().file or usual()

@@ -15,37 +15,40 @@ commit's.
 
 Exit status: 0, or 1 where a package can't be made, as standard error says then.
 """
+from __future__ import annotations
+
 import os
 import shutil
 import sys
 import tempfile
+from typing import Iterator, List
 
 from tools.commands.command_line import checkout
 from tools.commands.command_line.arguments import ToolParser
 from tools.commands.packaging import debian, files, made, tree, wheel
 
 
-def put(folder, name, data):
+def put(folder: str, name: str, data: bytes) -> str:
     with open(f"{folder}/{name}", "wb") as file:
         file.write(data)
     return name
 
 
-def archives(what, folder):
+def archives(what: made.Made, folder: str) -> Iterator[str]:
     yield put(folder, f"seccomp-broker-{what.name}-x86_64-linux.tar.gz", tree.zipped_tar(files.tarball(what), what.time))
     if what.library:
         yield put(folder, wheel.name(what), wheel.data(what))
         yield put(folder, f"seccompbroker-{what.name}.tar.gz", tree.zipped_tar(files.go_module(what), what.time))
 
 
-def begin(folder):
+def begin(folder: str) -> None:
     """Says what is made, where, and how long it may take."""
     kind = "the proved program" if checkout.is_proved() else "a trial build, since no proved program of these sources is here (./broker --prove makes it)"
     trial = "" if checkout.is_proved() else "; a trial build that isn't kept yet takes one to two minutes"
     print(f"package: packages of {kind} go to {folder}, in half a minute{trial}", file=sys.stderr, flush=True)
 
 
-def make(what, folder):
+def make(what: made.Made, folder: str) -> List[str]:
     """Makes all packages beside their places, so that an interrupt leaves no part of one, and gives their names."""
     with tempfile.TemporaryDirectory(prefix=".making-", dir=folder) as room:
         names = list(archives(what, room))
@@ -58,7 +61,7 @@ def make(what, folder):
     return names
 
 
-def main():
+def main() -> int:
     parser = ToolParser()
     parser.add_argument("folder", metavar="FOLDER", nargs="?", default=f"{made.TOP}/packages")
     folder = parser.parse_args().folder

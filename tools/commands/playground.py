@@ -6,6 +6,7 @@ import os
 import socket
 import sys
 import tempfile
+from typing import Dict, List
 
 from tools.commands.command_line.arguments import Parser
 from tools.commands.command_line.top import TOP
@@ -29,19 +30,19 @@ def arguments():
     return asked
 
 
-def text_of(path):
+def text_of(path: str) -> str:
     with open(path, encoding="utf-8") as file:
         return file.read()
 
 
-def examples():
+def examples() -> Dict[str, List[str]]:
     """Policy and script of each example, by its name."""
     folder = f"{TOP}/examples"
     names = sorted(name for name in os.listdir(folder) if os.path.isfile(f"{folder}/{name}/script.txt"))
     return {name: [text_of(f"{folder}/{name}/policy.json"), text_of(f"{folder}/{name}/script.txt")] for name in names}
 
 
-def look_at_port(port):
+def look_at_port(port: int) -> None:
     """Raises an OSError where the port can't be had, before a trial build is made for nothing."""
     with socket.socket() as tried:
         # (as the server does it: a port that was in use a moment ago can be had)

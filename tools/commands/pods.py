@@ -1,5 +1,8 @@
 """What a pod printed, taken apart."""
+from __future__ import annotations
+
 import re
+from typing import Dict
 
 PART = re.compile(rb"container (\d+)\n")
 LEDGERS = re.compile(rb"handovers (\d+)\n")
@@ -23,12 +26,12 @@ def parts(out):
     return reports, lines[0]
 
 
-def numbers(line):
+def numbers(line: bytes) -> Dict[bytes, int]:
     """The counts of a line, each under its name."""
     return {name: int(count) for name, count in re.findall(rb"(\w+)=(\d+)", line)}
 
 
-def summary(report):
+def summary(report: bytes) -> bytes:
     """The line of a report that has its counts; what stands after it are ledgers."""
     return report.split(b"\nhandovers ", 1)[0].splitlines()[-1]
 

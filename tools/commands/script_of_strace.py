@@ -56,7 +56,7 @@ def words() -> Namespace:
     return parser.parse_args()
 
 
-def failed(text):
+def failed(text: str) -> None:
     sys.exit(f"script-of-strace: {text}")
 
 
@@ -91,7 +91,7 @@ def trace_of(name: str) -> Trace:
         return strace_text.read(file, workload.WANTED)
 
 
-def main():
+def main() -> None:
     asked = words()
     try:
         filters, lines_of_filters = filters_of(asked)

@@ -1,6 +1,10 @@
 """Runs test files: what calls come to under policies, compared with what is expected. `./broker help test` has its words."""
+from __future__ import annotations
+
+from typing import Optional
+
 from tools.commands.testing import command
 
 
-def main():
+def main() -> Optional[int]:
     return command.main()

@@ -14,7 +14,7 @@ import sys
 import tempfile
 import time
 from pathlib import Path
-from typing import Dict
+from typing import Any, Callable, Dict
 
 from tools.commands.command_line import ending
 
@@ -102,7 +102,7 @@ def flush() -> None:
             pass
 
 
-def watch(main, room, alive):
+def watch(main: Callable[..., Any], room: str, alive: int) -> None:
     """The watcher: waits for the end of the program, or of the process above, and ends the rest."""
     set_own(PR_SET_CHILD_SUBREAPER, 1)
     signal.signal(signal.SIGINT, signal.SIG_IGN)
@@ -151,7 +151,7 @@ def interrupt_child_of(watcher):
             os.kill(pid, signal.SIGINT)
 
 
-def watched(main, prefix):
+def watched(main: Callable[..., Any], prefix: str) -> None:
     """Runs a program, whose folder it is given, and ends as it does. What it has started and made is gone by then. Doesn't return."""
     flush()
     room = tempfile.mkdtemp(prefix=prefix)

@@ -16,7 +16,7 @@ import re
 import sys
 from collections import namedtuple
 from functools import lru_cache
-from typing import Dict, List, Optional, Set, Tuple
+from typing import Any, Dict, List, Optional, Set, Tuple
 
 from tools.commands.command_line.arguments import ToolParser
 from tools.commands.command_line.top import TOP
@@ -162,7 +162,7 @@ def rust_file(crate: str, parts: List[str]) -> str:
 
 
 @lru_cache(None)
-def imports(path):
+def imports(path: str) -> Dict[str, Tuple[str, str]]:
     """Where the names that a file imports come from: the module, or the file in src/, and the name there."""
     pairs, found = IMPORT.findall(text_of(path)), {}
     if path.endswith(".rt"):
@@ -232,7 +232,7 @@ def reached(roots: List[Item], without: Set[Tuple[str, ...]]) -> Tuple[Dict[Tupl
 
 
 @lru_cache(None)
-def rests_on(number):
+def rests_on(number: str) -> Tuple[Dict[Tuple[str, int], Item], Set[str]]:
     """The definitions on which a sentence rests, by their places, and the files of the library that they speak of."""
     sentence = SENTENCES[number]
     roots = [items(path)[name] for path, names in sentence.definitions.items() for name in names.split()]
@@ -241,7 +241,7 @@ def rests_on(number):
     return reached(roots, {(LAW, "Mediated")})
 
 
-def count(definitions, path=None):
+def count(definitions: Dict[Tuple[str, int], Item], path: Any = None) -> int:
     return sum(bool(line.strip()) for item in definitions.values() if path in (None, item.path) for line in item.lines)
 
 
@@ -256,7 +256,7 @@ def said_by(sentence: Sentence) -> str:
     return ", ".join(f"`{name}`" for name in names)
 
 
-def sentence_row(number):
+def sentence_row(number: str) -> str:
     definitions, legal = rests_on(number)[0], rests_on(LEGAL)[0]
     beside = "" if number == LEGAL else count({key: item for key, item in definitions.items() if key not in legal})
     return f"| {number} | {SENTENCES[number].short} | {said_by(SENTENCES[number])} | {len(files(definitions))} | {count(definitions)} | {beside} |\n"
@@ -268,21 +268,21 @@ def file_line(definitions, path):
     return f"{count(definitions, path):>5}{whole} lines of crates/{path}"
 
 
-def together(numbers):
+def together(numbers: List[str]) -> Dict[Tuple[str, int], Item]:
     return {key: item for number in numbers for key, item in rests_on(number)[0].items()}
 
 
-def summary(numbers):
+def summary(numbers: List[str]) -> str:
     definitions = together(numbers)
     return f"{count(definitions)} lines in {len(files(definitions))} files"
 
 
-def library_names():
+def library_names() -> str:
     modules = sorted(set().union(*(rests_on(number)[1] for number in SENTENCES)))
     return ", ".join(f"`{module.removeprefix('Rattle.')}`" for module in modules)
 
 
-def written():
+def written() -> str:
     numbers = list(SENTENCES)
     law = [number for number in numbers if SENTENCES[number].section]
     return "".join((

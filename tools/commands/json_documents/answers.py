@@ -1,5 +1,8 @@
 """What `step` prints: an answer to each request."""
+from __future__ import annotations
+
 import re
+from typing import Any, Dict, Iterator, List, Tuple
 
 from tools.commands.json_documents.judgements import verdict_line, verdict_of
 from tools.commands.json_documents.lines import Lines
@@ -26,7 +29,7 @@ PLAIN = (
 )
 
 
-def without_scripts(data):
+def without_scripts(data: bytes) -> Tuple[bytes, List[bytes]]:
     """The bytes of all answers with empty lines in the place of each script's, and the scripts. A script may have any bytes in its comments."""
     kept, scripts, at = [], [], 0
     while at < len(data):
@@ -67,14 +70,14 @@ def answer_of(lines, scripts):
     return report_at(lines, int(told[1])) if told else step_of(line, lines.at)
 
 
-def judgement_at(lines, length):
+def judgement_at(lines: Lines, length: int) -> Dict[str, Any]:
     """The judgement whose bytes are counted in the line in front of it."""
     if lines.are_left and len(lines.next) + 1 != length:
         raise NotAReport(lines.at, f"{length} bytes of a judgement should stand below")
     return {"kind": "judged", "judgement": verdict_of(lines)}
 
 
-def report_at(lines, length):
+def report_at(lines: Lines, length: int) -> Dict[str, Any]:
     """The report whose bytes are counted in the line in front of it."""
     first, size = lines.at, 0
     while size < length and lines.are_left:
@@ -108,7 +111,7 @@ def answers_of(data):
     return {"answers": answers}
 
 
-def answer_lines(document):
+def answer_lines(document: Dict[str, Any]) -> Iterator[str]:
     for answer in document["answers"]:
         yield from WRITTEN[answer["kind"]](answer)
 

@@ -1,5 +1,8 @@
 """A document for each word of the program, made of what the word prints, and the same text made of the document."""
+from __future__ import annotations
+
 import re
+from typing import Any, Dict, Iterator, List, Pattern
 
 from tools.commands import pods
 from tools.commands.json_documents.answers import answer_lines, answers_of
@@ -17,7 +20,7 @@ SUMMARY = re.compile("summary (.*)")
 SUMS = re.compile(r"pod containers=(\d+) (.*)")
 
 
-def counts_at(lines, form):
+def counts_at(lines: Lines, form: Pattern[Any]) -> List[Any]:
     """The fields of the next line, the last of which are counts."""
     *fields, words = lines.take(form, "a line of counts")
     counts = counts_of(words)
@@ -26,7 +29,7 @@ def counts_at(lines, form):
     return [*fields, counts]
 
 
-def pod_of(data):
+def pod_of(data: bytes) -> Any:
     try:
         reports, last = pods.parts(data)
     except ValueError as fault:
@@ -37,21 +40,21 @@ def pod_of(data):
     return {"containers": [{"number": number, **served_of(report)} for number, report in enumerate(reports)], "sums": sums}
 
 
-def pod_lines(document):
+def pod_lines(document: Dict[str, Any]) -> Iterator[str]:
     for container in document["containers"]:
         yield f"container {container['number']}"
         yield from served_lines(container)
     yield f"pod containers={len(document['containers'])} {counts_words(document['sums'])}"
 
 
-def summary_of(data):
+def summary_of(data: bytes) -> Dict[str, Dict[str, int]]:
     lines = Lines(data)
     summary, = counts_at(lines, SUMMARY)
     lines.end("the summary")
     return {"summary": summary}
 
 
-def summary_lines(document):
+def summary_lines(document: Dict[str, Any]) -> Iterator[str]:
     yield f"summary {counts_words(document['summary'])}"
 
 
@@ -78,11 +81,11 @@ WORDS = {
 WHOLE = (0, 11, 12)
 
 
-def document(word, output):
+def document(word: str, output: bytes) -> Dict[str, Any]:
     """The document of what a word printed with such a status. NotAReport says at which line the bytes are no output of that word."""
     return {"word": word, **WORDS[word][0](output)}
 
 
-def text(found):
+def text(found: Dict[str, Any]) -> bytes:
     """The bytes that the word printed, by their document."""
     return "".join(f"{line}\n" for line in WORDS[found["word"]][1](found)).encode("latin-1")

@@ -2,7 +2,7 @@
 from __future__ import annotations
 
 import re
-from typing import Any, Dict, Tuple
+from typing import Any, Dict, Iterator, List, Pattern, Tuple
 
 from tools.commands.json_documents.lines import Lines
 from tools.commands.json_documents.requests import NODES, REQUESTS
@@ -25,7 +25,7 @@ def compiled(rows: Dict[str, Tuple[str, Form]]) -> Dict[str, Any]:
     return {kind: (re.compile(line), form) for kind, (line, form) in rows.items()}
 
 
-def read_of(rows, words):
+def read_of(rows: Any, words: str) -> Any:
     """The fields of words by the row whose form they have, behind the row's kind; None where no row fits."""
     for kind, (line, form) in rows.items():
         found = line.fullmatch(words)
@@ -34,7 +34,7 @@ def read_of(rows, words):
     return None
 
 
-def written(rows, value):
+def written(rows: Dict[str, Tuple[Pattern[Any], Form]], value: Dict[str, Any]) -> str:
     return rows[value["kind"]][1].write(value)
 
 
@@ -77,14 +77,14 @@ MISSES = compiled({
 })
 
 
-def part_of(lines, rows, words, what):
+def part_of(lines: Any, rows: Any, words: str, what: str) -> Any:
     found = read_of(rows, words)
     if found is None:
         raise NotAReport(lines.at, f"{what} has another form")
     return found
 
 
-def call_of(lines):
+def call_of(lines: Any) -> Any:
     number, call, rule, verdict = lines.take(HEAD_LINE, "a call with the rule that decides it")
     found = {"line": int(number), "call": part_of(lines, CALLS, call, "the call"), "rule": rule, "verdict": part_of(lines, VERDICTS, verdict, "the verdict"), "before": []}
     while lines.next_is("  "):
@@ -93,14 +93,14 @@ def call_of(lines):
     return found
 
 
-def explanation_of(data):
+def explanation_of(data: bytes) -> Dict[str, List[Dict[str, Any]]]:
     lines, calls = Lines(data), []
     while lines.at < len(lines.lines):
         calls.append(call_of(lines))
     return {"calls": calls}
 
 
-def explanation_lines(document):
+def explanation_lines(document: Dict[str, Any]) -> Iterator[str]:
     for call in document["calls"]:
         yield f"{call['line']} {written(CALLS, call['call'])} rule={call['rule']} verdict={written(VERDICTS, call['verdict'])}"
         for before in call["before"]:

@@ -2,7 +2,7 @@
 from __future__ import annotations
 
 import re
-from typing import Any, Dict
+from typing import Any, Dict, Iterator
 
 from tools.commands.json_documents.lines import Lines
 from tools.commands.json_documents.report import EVENTS
@@ -38,7 +38,7 @@ def did_of(lines: Lines) -> Dict[str, Any]:
     return {"event": event, **EVENTS[event].read(fields.groups()), "afterwards": afterwards}
 
 
-def did_line(did):
+def did_line(did: Dict[str, Any]) -> str:
     event = did["event"]
     return f" did {'plant ' if event == 'plant' else ''}{EVENTS[event].write(did)}{' ' + did['afterwards'] if did['afterwards'] else ''}"
 
@@ -54,7 +54,7 @@ def call_of(lines):
     return call
 
 
-def call_lines(call):
+def call_lines(call: Dict[str, Any]) -> Iterator[str]:
     yield f"{ENTERED.write(call)} {JUDGED.write(call['audit']) if call['audit'] else NOT_RECEIVED}"
     yield from map(did_line, call["did"])
 
@@ -69,7 +69,7 @@ def turn_line(turn: Dict[str, Any]) -> str:
     return f"{word[0]} {word[1:]} {turn['steps']}"
 
 
-def schedule_of(lines):
+def schedule_of(lines: Any) -> Any:
     """The turns of a schedule, or None where it is too long to be printed."""
     if lines.next_is(TOO_LONG):
         return lines.skip(TOO_LONG)
@@ -92,7 +92,7 @@ def outcome_of(lines):
     return {"number": int(number), "histories": histories, "calls": calls, "schedule": schedule_of(lines)}
 
 
-def outcome_lines(outcome):
+def outcome_lines(outcome: Dict[str, Any]) -> Iterator[str]:
     yield f"outcome {outcome['number']} histories={outcome['histories']}"
     for call in outcome["calls"]:
         yield from call_lines(call)
@@ -115,7 +115,7 @@ def exploration_of(data: bytes) -> Dict[str, Any]:
     return {**(BOUNDS.read((workers, delays)) if workers else {}), **COUNTS.read(counts), "whole": whole, "outcomes": found}
 
 
-def exploration_lines(document):
+def exploration_lines(document: Dict[str, Any]) -> Iterator[str]:
     bounds = BOUNDS.write(document) if "workers" in document else ""
     yield f"explored {bounds}{COUNTS.write(document)} outcomes={len(document['outcomes'])} whole={document['whole']}"
     for outcome in document["outcomes"]:

@@ -1,5 +1,8 @@
 """What `judge` prints of the workers of a schedule, and the first line of it, which `step` answers."""
+from __future__ import annotations
+
 import re
+from typing import Any, Dict, Iterator, Union
 
 from tools.commands.json_documents.lines import Lines
 from tools.commands.json_documents.report import event_in, event_line
@@ -14,22 +17,22 @@ EVENT_LINE, CALL_LINE, SAID_LINE = re.compile("(.*)"), re.compile("call (.*)"), 
 NO_CALL, BEHIND_AN_EVENT = "-", ": "
 
 
-def is_mediated(lines):
+def is_mediated(lines: Lines) -> bool:
     return not lines.next_is("broken ")
 
 
-def verdict_of(lines):
+def verdict_of(lines: Lines) -> Dict[str, Union[int, str]]:
     """What the next line says: how much was done, or which event breaks which clause."""
     if is_mediated(lines):
         return {"kind": "mediated", **MEDIATED.read(lines.take(MEDIATED_LINE, "whether the workers mediated"))}
     return {"kind": "broken", **BROKEN.read(lines.take(BROKEN_LINE, "which event breaks which clause"))}
 
 
-def verdict_line(verdict):
+def verdict_line(verdict: Dict[str, Any]) -> str:
     return (MEDIATED if verdict["kind"] == "mediated" else BROKEN).write(verdict)
 
 
-def shown_event(words, number):
+def shown_event(words: str, number: int) -> Any:
     """The event with which a reason begins, and what is said of it; None and all words where no event shows it."""
     for at in (it.start() for it in re.finditer(BEHIND_AN_EVENT, words)):
         try:
@@ -40,7 +43,7 @@ def shown_event(words, number):
     return None, words
 
 
-def reason_of(lines):
+def reason_of(lines: Any) -> Any:
     words, = lines.take(SAID_LINE, "a reason")
     event, says = shown_event(words, lines.at)
     return {"event": event, "says": says}
@@ -60,18 +63,18 @@ def broken_of(lines):
     return {"kind": "broken", "class": verdict["class"], "clause": verdict["clause"], "event": event, "call": call, "means": means, "reasons": reasons}
 
 
-def judgement_of(data):
+def judgement_of(data: bytes) -> Dict[str, Dict[str, Any]]:
     lines = Lines(data)
     found = verdict_of(lines) if is_mediated(lines) else broken_of(lines)
     lines.end("the counts")
     return {"judgement": found}
 
 
-def reason_line(reason):
+def reason_line(reason: Dict[str, Any]) -> str:
     return f"  {event_line(reason['event'])}{BEHIND_AN_EVENT}{reason['says']}" if reason["event"] else f"  {reason['says']}"
 
 
-def judgement_lines(document):
+def judgement_lines(document: Dict[str, Any]) -> Iterator[str]:
     judged = document["judgement"]
     if judged["kind"] == "mediated":
         yield verdict_line(judged)

@@ -1,6 +1,9 @@
 """What `handover` prints behind its report, and a run in which workers are replaced: the ledgers from which they were."""
+from __future__ import annotations
+
 import json
 import re
+from typing import Any, Dict, Iterator, Union
 
 from tools.commands.json_documents.report import report_lines, report_of
 from tools.commands.json_documents.values import Form, NUMBER, WORKER
@@ -14,14 +17,14 @@ KINDS = {"notif": "notification", "bytes": "bytes", "number": "descriptor", "fau
 KEYS = {kind: key for key, kind in KINDS.items()}
 
 
-def answer_of(value):
+def answer_of(value: Any) -> Any:
     if value == "ok":
         return {"kind": "ok"}
     (key, told), = value.items()
     return {"kind": KINDS[key], "bytes" if key == "notif" else KINDS[key]: told}
 
 
-def answer_value(answer):
+def answer_value(answer: Dict[str, str]) -> Union[Dict[str, str], str]:
     kind = answer["kind"]
     return kind if kind == "ok" else {KEYS[kind]: answer["bytes" if kind == "notification" else kind]}
 
@@ -34,12 +37,12 @@ def ledger_of(line):
     return {**PLACE.read((place, worker)), "count": str(values["count"]), "answers": [answer_of(value) for value in values["own"]]}
 
 
-def ledger_line(ledger):
+def ledger_line(ledger: Dict[str, Any]) -> str:
     values = {"count": int(ledger["count"]), "own": [answer_value(answer) for answer in ledger["answers"]], "worker": ledger["worker"]}
     return f"{PLACE.write(ledger)} {json.dumps(values, separators=(',', ':'))}"
 
 
-def handover_of(data):
+def handover_of(data: bytes) -> Dict[str, Any]:
     report, title, behind = data.partition(TITLE)
     found, first = report_of(report + b"\n"), data.count(b"\n", 0, len(report) + 1) + 1
     count, *lines = behind.decode("ascii").split("\n")
@@ -54,16 +57,16 @@ def handover_of(data):
     return {**found, "ledgers": ledgers}
 
 
-def handover_lines(document):
+def handover_lines(document: Dict[str, Any]) -> Iterator[str]:
     yield from report_lines(document)
     yield f"handovers {len(document['ledgers'])}"
     yield from map(ledger_line, document["ledgers"])
 
 
-def served_of(data):
+def served_of(data: bytes) -> Dict[str, Any]:
     """The document of what threads have served: with ledgers, where workers were replaced."""
     return handover_of(data) if TITLE in data else report_of(data)
 
 
-def served_lines(document):
+def served_lines(document: Dict[str, Any]) -> Iterator[Any]:
     return handover_lines(document) if "ledgers" in document else report_lines(document)

@@ -1,5 +1,8 @@
 """What a look of `step` sees."""
+from __future__ import annotations
+
 import re
+from typing import Any, Dict
 
 from tools.commands.json_documents.values import text_of, quoted_of
 from tools.commands.pages.reports import ERRNO, NAME, NUMBER as DIGITS, TEXT as QUOTED
@@ -14,7 +17,7 @@ def node_of(ordinal, plain, device, major, minor, target):
     return {"kind": "node", "ordinal": int(ordinal), "node": node}
 
 
-def node_words(seen):
+def node_words(seen: Dict[str, Any]) -> str:
     node = seen["node"]
     device, target = f" {node['major']}:{node['minor']}" if "major" in node else "", f" {quoted_of(node['target'])}" if "target" in node else ""
     return f"node {seen['ordinal']} {node['kind']}{device}{target}"
@@ -48,5 +51,5 @@ def look_of(line):
     return None
 
 
-def look_line(seen):
+def look_line(seen: Any) -> str:
     return f"look {WORDS[seen['kind']](seen)}"

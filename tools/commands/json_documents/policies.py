@@ -1,5 +1,8 @@
 """What `compare`, `check` and `lint` print of policies, for all calls."""
+from __future__ import annotations
+
 import re
+from typing import Any, Dict, Iterator, List, Optional
 
 from tools.commands.json_documents.explanations import CALLS, compiled, part_of, read_of, written
 from tools.commands.json_documents.lines import Lines
@@ -10,7 +13,7 @@ EQUAL, DIFFER, UNDECIDED = "equal", "differ", "undecided"
 TOGETHER, APART = "together", "apart"
 
 
-def optional(front, kind):
+def optional(front: str, kind: Kind) -> Kind:
     """A kind behind its name, or nothing for null."""
     return Kind(lambda words: kind.read(words[len(front):]) if words else None, lambda value: "" if value is None else f"{front}{kind.write(value)}")
 
@@ -36,7 +39,7 @@ COUNT_LINE = re.compile(rf"counts (.*) old=({TOGETHER}|{APART}) new=({TOGETHER}|
 UNNOTIFIED = " notified=no"
 
 
-def known(lines, kind, words, what):
+def known(lines: Any, kind: Any, words: str, what: str) -> Any:
     """What a part of the line above is."""
     found = kind.read(words)
     if found is None:
@@ -44,22 +47,22 @@ def known(lines, kind, words, what):
     return found
 
 
-def marked(unnotified):
+def marked(unnotified: Optional[str]) -> Dict[str, bool]:
     """That the filters don't notify it; nothing where they do, or where there are none."""
     return {"notified": False} if unnotified else {}
 
 
-def mark_of(document):
+def mark_of(document: Dict[str, Any]) -> str:
     return "" if document.get("notified", True) else UNNOTIFIED
 
 
-def change_of(lines):
+def change_of(lines: Lines) -> Dict[str, Any]:
     way, call, old_rule, old, new_rule, new, unnotified = lines.take(CHANGE_LINE, "a class of calls that the policies decide otherwise")
     sides = {name: {"rule": rule, "answer": known(lines, ANSWER, answer, "an answer")} for name, rule, answer in (("old", old_rule, old), ("new", new_rule, new))}
     return {"way": way, "call": known(lines, CALL, call, "the call"), **sides, **marked(unnotified)}
 
 
-def two_calls(lines, words):
+def two_calls(lines: Any, words: str) -> Any:
     """The two calls that stand on either side of ` and `, which may stand in their texts too."""
     for at in (it.start() for it in re.finditer(" and ", words)):
         calls = [CALL.read(words[:at]), CALL.read(words[at + len(" and "):])]
@@ -68,12 +71,12 @@ def two_calls(lines, words):
     raise NotAReport(lines.at, "two calls should be here")
 
 
-def count_of(lines):
+def count_of(lines: Lines) -> Dict[str, Any]:
     words, old, new, unnotified = lines.take(COUNT_LINE, "two calls that the policies count otherwise")
     return {"calls": two_calls(lines, words), "old": old, "new": new, **marked(unnotified)}
 
 
-def comparison_of(data):
+def comparison_of(data: bytes) -> Any:
     lines = Lines(data)
     if lines.next_is(EQUAL) or lines.next_is(UNDECIDED):
         outcome, = lines.take(re.compile(f"({EQUAL}|{UNDECIDED})"), "what comes of the comparison")
@@ -89,7 +92,7 @@ def comparison_of(data):
     return found
 
 
-def comparison_lines(document):
+def comparison_lines(document: Dict[str, Any]) -> Iterator[str]:
     if document["outcome"] != DIFFER:
         yield document["outcome"]
         return
@@ -112,13 +115,13 @@ STANDING_LINE = re.compile(r"((?:held|refuted|undecided) .*)")
 CLAIMS_LINE = re.compile(rf"(claims={DIGITS} .*)")
 
 
-def claims_line(claims):
+def claims_line(claims: List[Dict[str, Any]]) -> str:
     """The last line."""
     counted = {kind: sum(it["kind"] == kind for it in claims) for kind in STANDINGS}
     return f"claims={len(claims)} held={counted['held'] + counted['vacuous']} refuted={counted['refuted']}" + (f" undecided={counted['undecided']}" if counted["undecided"] else "")
 
 
-def standings_of(data):
+def standings_of(data: bytes) -> Dict[str, List[Dict[str, Any]]]:
     lines, claims = Lines(data), []
     while not lines.next_is("claims="):
         words, = lines.take(STANDING_LINE, "what a claim comes to")
@@ -131,7 +134,7 @@ def standings_of(data):
     return {"claims": claims}
 
 
-def standing_lines(document):
+def standing_lines(document: Dict[str, Any]) -> Iterator[str]:
     yield from (written(STANDINGS, it) for it in document["claims"])
     yield claims_line(document["claims"])
 
@@ -146,7 +149,7 @@ ITS_CALL = Kind(lambda words: CALL.read(words) if words else None, lambda call: 
 FINDING = Form("{finding} {place} {line}:{column} {says}{by}{call}", finding=WORD, place=WORD, line=NUMBER, column=NUMBER, says=WORD, by=NAMES, call=ITS_CALL)
 
 
-def finding_of(lines):
+def finding_of(lines: Lines) -> Dict[str, Any]:
     fields = ["" if it is None else it for it in lines.take(FINDING_LINE, "a finding")]
     found = FINDING.read(fields)
     if fields[-1] and found["call"] is None:
@@ -154,7 +157,7 @@ def finding_of(lines):
     return found
 
 
-def findings_of(data):
+def findings_of(data: bytes) -> Any:
     lines, found = Lines(data), []
     if lines.next_is("clean"):
         lines.skip("clean")
@@ -165,7 +168,7 @@ def findings_of(data):
     return {"findings": found}
 
 
-def finding_lines(document):
+def finding_lines(document: Dict[str, Any]) -> Iterator[str]:
     found = document["findings"]
     yield f"findings={len(found)}" if found else "clean"
     yield from map(FINDING.write, found)

@@ -1,7 +1,7 @@
 """A report as a part of a document, and back."""
 from __future__ import annotations
 
-from typing import TYPE_CHECKING, Any, Dict
+from typing import TYPE_CHECKING, Any, Dict, Iterator
 
 from tools.commands.json_documents.requests import REQUEST
 from tools.commands.json_documents.values import (
@@ -47,7 +47,7 @@ def event_of(place: int, event: Event) -> Dict[str, Any]:
     return {**STEP.read((place, event.actor, event.word)), **(form.read(event.fields) if form else {})}
 
 
-def event_in(line, number):
+def event_in(line: str, number: int) -> Any:
     """The event of a line, which begins with the event's place; `number` is the line's."""
     place = line.split(" ", 1)[0]
     try:
@@ -56,7 +56,7 @@ def event_in(line, number):
         raise reports.NotAReport(number, str(fault)) from None
 
 
-def event_line(event):
+def event_line(event: Any) -> str:
     form = EVENTS.get(event["event"])
     return f"{STEP.write(event)} {form.write(event)}" if form else STEP.write(event)
 
@@ -68,17 +68,17 @@ def report_of(data: bytes) -> Dict[str, Any]:
             "audit": [JUDGED.read(judged) for judged in read.audit], "summary": read.summary}
 
 
-def counts_words(counts):
+def counts_words(counts: Dict[str, int]) -> str:
     return " ".join(f"{name}={counts[name]}" for name in reports.COUNTED)
 
 
-def counts_of(words):
+def counts_of(words: str) -> Any:
     """The counts of a line, behind its first word."""
     counts = reports.SUMMARY.fullmatch(f"summary {words}")
     return counts and dict(zip(reports.COUNTED, map(int, counts.groups())))
 
 
-def report_lines(report):
+def report_lines(report: Dict[str, Any]) -> Iterator[str]:
     for name, line in (("journal", event_line), ("calls", CALL.write), ("audit", JUDGED.write)):
         yield f"{name} {len(report[name])}"
         yield from map(line, report[name])

@@ -2,7 +2,7 @@
 from __future__ import annotations
 
 import re
-from typing import Dict
+from typing import Any, Dict
 
 from tools.commands.json_documents.values import Form, HEX_OR_DASH, Kind, LARGE, NUMBER, TEXT, WORD, or_dash
 from tools.commands.pages.reports import NODE, NUMBER as DIGITS, SIGNED, SOME_HEX, TEXT as QUOTED
@@ -13,7 +13,7 @@ def node_of(words: str) -> Dict[str, str]:
     return {"kind": kind, **dict(zip(("major", "minor"), device))}
 
 
-def node_words(node):
+def node_words(node: Dict[str, str]) -> str:
     return node["kind"] + (f" {node['major']}:{node['minor']}" if "major" in node else "")
 
 
@@ -41,7 +41,7 @@ def request_of(words):
     return {"kind": kind, **form.read(line.fullmatch(words).groups())}
 
 
-def request_words(request):
+def request_words(request: Dict[str, Any]) -> str:
     return request["call"] if request["kind"] == "other" else REQUESTS[request["kind"]][1].write(request)
 
 

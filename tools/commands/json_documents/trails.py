@@ -1,5 +1,8 @@
 """What `audit-check` prints of a report that it accepts."""
+from __future__ import annotations
+
 import re
+from typing import Any, Dict, Iterator
 
 from tools.commands.json_documents.lines import Lines
 from tools.commands.json_documents.values import Form, Kind, NUMBER, WORD, or_dash
@@ -13,7 +16,7 @@ TRAIL = Form("trail {call} recv={receive} valid={valid} effect={effect} answer={
              valid=or_dash(NUMBER), effect=or_dash(NUMBER), answer=or_dash(NUMBER), rule=or_dash(WORD))
 
 
-def trail_of(data):
+def trail_of(data: bytes) -> Dict[str, Any]:
     lines = Lines(data)
     first, trail = FIRST.read(lines.take(FIRST_LINE, "'yes' and the number of events")), []
     while lines.are_left:
@@ -21,6 +24,6 @@ def trail_of(data):
     return {**first, "trail": trail}
 
 
-def trail_lines(document):
+def trail_lines(document: Dict[str, Any]) -> Iterator[str]:
     yield FIRST.write(document)
     yield from map(TRAIL.write, document["trail"])

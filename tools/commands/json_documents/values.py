@@ -7,7 +7,7 @@ from __future__ import annotations
 
 import re
 from collections import namedtuple
-from typing import Any, Dict
+from typing import Any, Dict, Union
 
 Kind = namedtuple("Kind", "read write fields", defaults=(1,))
 
@@ -18,10 +18,10 @@ TO_ESCAPE = re.compile(rb'[^ -~]|["\\]')
 class Form:
     """A line's text, with the places of its fields in braces, and the kind of each."""
 
-    def __init__(self, text, **kinds):
+    def __init__(self, text: str, **kinds: Kind) -> None:
         self.text, self.kinds = text, kinds
 
-    def read(self, fields):
+    def read(self, fields: Any) -> Dict[str, Any]:
         values, at = {}, 0
         for name, kind in self.kinds.items():
             values[name] = kind.read(*fields[at:at + kind.fields])
@@ -47,7 +47,7 @@ def text_of_bytes(content: bytes) -> str:
     return content.replace(b"\\", b"\\\\").decode("utf-8", "backslashreplace")
 
 
-def bytes_of(text):
+def bytes_of(text: str) -> bytes:
     """The bytes of such a text."""
     return unescaped(text.encode("utf-8"))
 
@@ -63,7 +63,7 @@ def quoted(content):
     return f'"{escaped.decode("ascii")}"'
 
 
-def quoted_of(text):
+def quoted_of(text: str) -> str:
     """The same text between quotes."""
     return quoted(bytes_of(text))
 
@@ -79,7 +79,7 @@ def result_of(word: str) -> Dict[str, str]:
     return {"kind": "error", "error": word} if word.startswith("E") else {"kind": "value", "value": word}
 
 
-def result_word(result):
+def result_word(result: Any) -> str:
     return result.get(result["kind"], result["kind"])
 
 
@@ -87,7 +87,7 @@ def started_of(pid, memory, error):
     return result_of(error) if error else {"kind": "started", "pid": int(pid), "memory": memory}
 
 
-def started_words(result):
+def started_words(result: Dict[str, Union[int, str]]) -> str:
     return f"pid={result['pid']} {result['memory']}" if result["kind"] == "started" else result_word(result)
 
 
@@ -95,11 +95,11 @@ def received_of(notification, pid, error):
     return result_of(error) if error else {"kind": "received", "id": notification, "pid": int(pid)}
 
 
-def received_words(result):
+def received_words(result: Dict[str, Union[int, str]]) -> str:
     return f"id={result['id']} pid={result['pid']}" if result["kind"] == "received" else result_word(result)
 
 
-def reaped_of(word):
+def reaped_of(word: str) -> Dict[str, str]:
     return result_of(word) if word.startswith("E") else {"kind": "reaped", "task": word}
 
 
@@ -107,7 +107,7 @@ def bytes_read_of(word: str) -> Dict[str, str]:
     return result_of(word) if word.startswith("E") else {"kind": "bytes", "bytes": HEX_OR_DASH.read(word)}
 
 
-def bytes_read_word(result):
+def bytes_read_word(result: Dict[str, str]) -> str:
     return HEX_OR_DASH.write(result["bytes"]) if result["kind"] == "bytes" else result_word(result)
 
 
@@ -117,7 +117,7 @@ def verdict_of(words: str) -> Dict[str, Any]:
     return {"kind": kind, **({} if not rest else {"id": rest[0]} if kind == "notify" else {"errno": int(rest[0])})}
 
 
-def verdict_words(verdict):
+def verdict_words(verdict: Any) -> str:
     return verdict["kind"] + (f" id={verdict['id']}" if "id" in verdict else f"={verdict['errno']}" if "errno" in verdict else "")
 
 

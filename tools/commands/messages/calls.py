@@ -3,7 +3,7 @@ from __future__ import annotations
 
 import re
 from dataclasses import dataclass
-from typing import List, Optional
+from typing import Any, List, Optional, Tuple
 
 from tools.commands.messages import policy_words
 from tools.commands.messages.findings import Text, advice, listed, meant
@@ -86,7 +86,7 @@ def within(number: Optional[int], least: int, most: int) -> Optional[str]:
     return BAD_NUMBER if number is None else None if least <= number <= most else OUT_OF_RANGE
 
 
-def reason_of(operand, token):
+def reason_of(operand: Any, token: Any) -> Optional[str]:
     """Why a token can't stand where an operand belongs; None where it can."""
     kind, text = operand.kind, token.text
     if kind in ("text", "bytes") or token.is_quoted:
@@ -120,7 +120,7 @@ class Operands:
         if len(self.left) > count:
             raise Fault(WRONG_COUNT, self.left[count])
 
-    def take(self, operand):
+    def take(self, operand: Operand) -> Optional[Token]:
         token = self.left.pop(0)
         reason = reason_of(operand, token)
         if reason:
@@ -194,12 +194,12 @@ def fault_of(line: Line) -> Optional[Fault]:
 # ---- what is wrong, and what would be right. Each answers the words and the cure
 
 
-def form_of(line):
+def form_of(line: Line) -> str:
     usage, example = USAGE[line.word]
     return f"the line is `{usage}`" + (f", as in `{example}`" if usage != example else " alone")
 
 
-def quoted(content):
+def quoted(content: bytes) -> str:
     return '"' + "".join(chr(byte) if 32 <= byte < 127 and byte not in b'"\\' else f"\\{chr(byte)}" if byte in b'"\\' else f"\\x{byte:02x}" for byte in content) + '"'
 
 
@@ -209,7 +209,7 @@ def names_of(call, bits):
     return ",".join(name for name, bit in known.items() if bits & bit) or "-" if bits & ~sum(known.values()) == 0 else None
 
 
-def requested(text):
+def requested(text: str) -> Optional[str]:
     """A request as a report writes it, as a line of a file of calls; None where it isn't one."""
     mount, attribute = MOUNT_OF_REPORT.fullmatch(text), ATTRIBUTE_OF_REPORT.fullmatch(text)
     if mount:
@@ -221,7 +221,7 @@ def requested(text):
     return text if text.startswith(("mknod ", "mknodat ")) else None
 
 
-def pasted(line):
+def pasted(line: str) -> Any:
     """What is said of a line, as text, that was taken from a report; None of another one."""
     text = line.strip()
     event = OF_REPORT.fullmatch(text)
@@ -233,7 +233,7 @@ def pasted(line):
     return "this is a line of a report", right
 
 
-def unknown_word(line):
+def unknown_word(line: Line) -> Tuple[str, str]:
     first, text = line.tokens[0], line.tokens[0].text
     if first.is_quoted:
         return "a line begins with the name of a call, and this is a quoted text", 'write the name without quotes, as in `mknod "/dev/null" chr 1:3`'
@@ -252,7 +252,7 @@ def unknown_word(line):
     return f"{text} is no name of a call", advice(hint, f"the names are {listed(CALL_NAMES)}; another call is `other NUMBER`")
 
 
-def wrong_count(line, fault):
+def wrong_count(line: Line, fault: Fault) -> Tuple[str, str]:
     word, tokens = line.word, line.operands
     if fault.few and tokens and tokens[-1].text in DEVICES and word in ("mknod", "mknodat"):
         return f"a `{tokens[-1].text}` has numbers, and none are here", f"write them after it, as `{tokens[-1].text} 1:3`"
@@ -260,7 +260,7 @@ def wrong_count(line, fault):
     return f"`{word}` has {count} here, which is too {'few' if fault.few else 'many'}", form_of(line)
 
 
-def wrong_form(line, fault):
+def wrong_form(line: Any, fault: Any) -> Any:
     token, operand = fault.token, fault.operand
     if token.is_quoted:
         inner = Token(token.text[1:-1], token.start + 1, token.end - 1)
@@ -274,7 +274,7 @@ def wrong_form(line, fault):
     return f"{operand.name} of `{line.word}` isn't in double quotes", f'write `"{token.text}"`'
 
 
-def bad_number(line, fault):
+def bad_number(line: Line, fault: Fault) -> Tuple[str, str]:
     token, operand = fault.token, fault.operand
     text = token.text
     if operand is DEVICE:
@@ -317,7 +317,7 @@ def out_of_range(line, fault):
     return f"{token.text[5:]} is outside of the range of mode", "mode has the permissions, 0 to 4095 (`0o7777`)"
 
 
-def flags_meant(call, text):
+def flags_meant(call: str, text: str) -> Optional[str]:
     """The flags that were likely meant, as a line has them, or None."""
     bits = re.fullmatch(r"(?:flags=)?(0x[0-9a-f]+|\d+)", text, re.ASCII)
     if bits:
@@ -331,7 +331,7 @@ def flags_meant(call, text):
     return ",".join(found)
 
 
-def unknown_flag(line, token):
+def unknown_flag(line: Line, token: Token) -> Tuple[str, str]:
     call, text = line.word, token.text
     known = f"the flags of `{call}` are {listed(BITS[call])}, with commas between them; `-` is none"
     right = flags_meant(call, text)
@@ -344,7 +344,7 @@ def unknown_flag(line, token):
     return f"{wrong} is no flag of `{call}`", advice(meant(wrong, BITS[call]), known)
 
 
-def unknown_name(line, fault):
+def unknown_name(line: Line, fault: Fault) -> Tuple[str, str]:
     token, operand = fault.token, fault.operand
     text = token.text
     if operand is KIND:
@@ -365,7 +365,7 @@ def unknown_name(line, fault):
 REASONS = {WRONG_COUNT: wrong_count, WRONG_FORM: wrong_form, BAD_NUMBER: bad_number, OUT_OF_RANGE: out_of_range, UNKNOWN_NAME: unknown_name}
 
 
-def place_and_words(line, reason):
+def place_and_words(line: Any, reason: str) -> Any:
     """What the reason means in this line: from where to where, what is wrong, and what would be right; None where nothing is found."""
     fault = fault_of(line)
     if fault is None or fault.reason != reason:
@@ -378,7 +378,7 @@ def place_and_words(line, reason):
     return (fault.token.start, end, *told)
 
 
-def finding_of(data, number, reason):
+def finding_of(data: bytes, number: int, reason: str) -> Any:
     """What the program's refusal of a file of calls means, by the line and the reason that it named."""
     text, name = Text(data), reason.replace(" ", "-")
     if number > len(text.lines):

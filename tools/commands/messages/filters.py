@@ -1,10 +1,14 @@
 """What is wrong with a filter of a script, as docs/reference/SCRIPT.md has it (Faults of a filter)."""
+from __future__ import annotations
+
+from typing import Any
+
 from tools.commands.messages.script_lines import number_of
 
 MOST_INSTRUCTIONS, LAST_OFFSET, TRAP, ACTION = 4096, 60, 0x00030000, 0xFFFF0000
 
 
-def jumps(line):
+def jumps(line: Any) -> Any:
     """How many instructions a line may skip."""
     numbers = [number_of(token.text) for token in line.operands]
     return numbers[:1] if line.word == "ja" else numbers[1:] if line.word in ("jeq", "jgt", "jge", "jset") else []
@@ -26,7 +30,7 @@ def instruction_fault(line, left):
     return None
 
 
-def fault_of(block, end):
+def fault_of(block: Any, end: Any) -> Any:
     """The first fault of a filter: the line that shows it, what is wrong and what would be right; None where none is found."""
     if not block.lines:
         return end, "the filter has no instruction", "the least filter is `ret 0x7fff0000`, which allows every call"

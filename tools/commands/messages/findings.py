@@ -5,7 +5,7 @@ import textwrap
 import unicodedata
 from bisect import bisect_right
 from dataclasses import dataclass
-from typing import List
+from typing import Any, Iterable, List
 
 from tools.commands.command_line.pages import WIDTH
 from tools.commands.command_line.table import near
@@ -121,13 +121,13 @@ def meant(word, known):
     return f"did you mean `{found}`? " if found else ""
 
 
-def joined(words, last="and"):
+def joined(words: Iterable[Any], last: str = "and") -> str:
     """Words as a text: a, b and c."""
     words = list(words)
     return words[0] if len(words) == 1 else f"{', '.join(words[:-1])} {last} {words[-1]}"
 
 
-def listed(words, last="and"):
+def listed(words: Any, last: str = "and") -> str:
     """The same, each between backquotes."""
     return joined((f"`{it}`" for it in words), last)
 

@@ -8,7 +8,7 @@ from __future__ import annotations
 import math
 import re
 from dataclasses import dataclass, field
-from typing import Iterator, Optional, Tuple
+from typing import Any, Iterator, Match, Optional, Tuple
 
 from tools.commands.messages.findings import near
 
@@ -86,7 +86,7 @@ def every_object(value: Value) -> Iterator[Value]:
         yield from every_object(one)
 
 
-def yaml_line(text):
+def yaml_line(text: str) -> Optional[Match[Any]]:
     """The first line of a text that looks like YAML, as its match: it begins with a bare key, or is YAML's mark of a document. None where it doesn't."""
     first = FIRST_LINE.search(text)
     return first if first and YAML_LINE.match(first[0]) else None
@@ -106,7 +106,7 @@ class Scanner:
         start = self.at if start is None else start
         raise NotJson(name, start, start + 1 if end is None else end, words, cure)
 
-    def document(self):
+    def document(self) -> Optional[Value]:
         """The value that the whole text is."""
         self.look_at_bytes()
         if not self.text.strip():
@@ -126,7 +126,7 @@ class Scanner:
         if bad:
             self.refuse("not-utf-8", f"the byte 0x{ord(bad[0]) - 0xdc00:02x} isn't UTF-8", "save the file as UTF-8", bad.start())
 
-    def refuse_more(self):
+    def refuse_more(self) -> None:
         """Something stands behind the value."""
         self.refuse_comment()
         if self.next() in ("}", "]"):
@@ -140,14 +140,14 @@ class Scanner:
                 end = self.text.find("\n", self.at)
                 self.refuse("comment", "JSON has no comments", f"remove it; {self.subject.remark}", end=len(self.text) if end < 0 else end)
 
-    def refuse_end(self, what):
+    def refuse_end(self, what: str) -> None:
         """The file ends inside of what is open."""
         opening = self.open[-1]
         kind = "object" if self.text[opening] == "{" else "array"
         closing = "".join(CLOSING[self.text[at]] for at in reversed(self.open))
         self.refuse("not-closed", f"the file ends, and this {kind} isn't closed", f"{what}, and then `{closing}`" if what else f"add `{closing}`", opening)
 
-    def value(self):
+    def value(self) -> Optional[Value]:
         letter = self.next()
         if letter in CLOSING:
             return self.nested(letter)
@@ -156,7 +156,7 @@ class Scanner:
             return Value("string", start, plain=self.string(), end=self.at)
         return self.scalar()
 
-    def nested(self, letter):
+    def nested(self, letter: str) -> Any:
         self.open.append(self.at)
         if len(self.open) > MOST_NESTED:
             self.refuse("too-deep", f"more than {MOST_NESTED} objects and arrays are in one another", f"a {self.subject.name} needs {self.subject.nested} at most")
@@ -179,7 +179,7 @@ class Scanner:
             value.members[key] = member
         return value
 
-    def array(self):
+    def array(self) -> Optional[Value]:
         value = Value("array", self.at)
         self.at += 1
         while not self.ends("]", bool(value.items)):
@@ -215,12 +215,12 @@ class Scanner:
             self.refuse_end("remove the last comma")
         return False
 
-    def refuse_other_closing(self, closing):
+    def refuse_other_closing(self, closing: str) -> None:
         line = self.text.count("\n", 0, self.open[-1]) + 1
         kind = "object" if closing == "}" else "array"
         self.refuse("wrong-closing", f"the {kind} of line {line} is open, and isn't closed by `{self.next()}`", f"close it with `{closing}`")
 
-    def refuse_no_comma(self):
+    def refuse_no_comma(self) -> None:
         if self.next() == ":" and self.text[self.open[-1]] == "[":
             self.refuse("key-in-an-array", "an array has values, and no keys", "put an object into it: `[{\"name\": ..}]`")
         if self.next() in ("=", ":", ";"):
@@ -320,7 +320,7 @@ class Scanner:
         self.at = low.end()
         return chr(0x10000 + ((high - 0xD800) << 10) + int(low[1], 16) - 0xDC00)
 
-    def refuse_escape(self):
+    def refuse_escape(self) -> None:
         letter = self.text[self.at + 1:self.at + 2]
         cure = "the escapes of JSON are `\\\"`, `\\\\`, `\\/`, `\\b`, `\\f`, `\\n`, `\\r`, `\\t` and `\\uHHHH`"
         hexadecimal = re.compile(r"\\x([0-9a-fA-F]{2})").match(self.text, self.at)

@@ -2,14 +2,14 @@
 from __future__ import annotations
 
 import re
-from typing import TYPE_CHECKING, Iterator
+from typing import TYPE_CHECKING, Any, Iterator, List
 
 from tools.commands.messages.findings import listed
 from tools.commands.messages.operands import form_of, is_like_octal
 from tools.commands.messages.script_lines import number_of, program_of, script_of, starts
 
 if TYPE_CHECKING:
-    from tools.commands.messages.findings import Text
+    from tools.commands.messages.findings import Finding, Text
     from tools.commands.messages.script_lines import Block, Line
 
 # how many tasks are looked at that never step
@@ -29,11 +29,11 @@ class Likely:
     def __init__(self, text: Text) -> None:
         self.text, self.script = text, script_of(text)
 
-    def finding(self, name, line, token, words, cure):
+    def finding(self, name: str, line: Any, token: Any, words: str, cure: str) -> Any:
         start = self.text.starts[line.number - 1]
         return self.text.finding(name, start + token.start, start + token.end, words, cure)
 
-    def on_word(self, name, line, words, cure):
+    def on_word(self, name: str, line: Line, words: str, cure: str) -> Finding:
         return self.finding(name, line, line.tokens[0], words, cure)
 
     def statements(self) -> Iterator[Line]:
@@ -50,7 +50,7 @@ class Likely:
 
     # ---- numbers and texts
 
-    def octal_numbers(self):
+    def octal_numbers(self) -> Iterator[Finding]:
         for line in self.statements():
             for place, token in enumerate(line.operands):
                 if not token.is_quoted and form_of(line).operand(place).kind not in ("program", "task", "hex") and is_like_octal(token.text):
@@ -58,7 +58,7 @@ class Likely:
                     yield self.finding("leading-zero", line, token, f"{token.text} is the decimal number {number_of(token.text)} here; in C it would be octal, {number_of(octal)}",
                                        f"write `{octal}` for the octal number, or `{number_of(token.text)}` for the decimal one")
 
-    def octal_escapes(self):
+    def octal_escapes(self) -> Iterator[Finding]:
         for line in self.statements():
             for token in (it for it in line.operands if it.is_quoted):
                 found = OCTAL_ESCAPE.search(token.text.replace("\\\\", "__"))
@@ -70,7 +70,7 @@ class Likely:
 
     # ---- who is asked, and who steps
 
-    def listener(self):
+    def listener(self) -> Iterator[Finding]:
         openings = [block.opening for block in self.script.blocks]
         if not self.script.named("notify") and not any(line.word == "filter" and line.operands for line in openings):
             filters = [line for line in openings if line.word == "filter"]
@@ -78,7 +78,7 @@ class Likely:
             yield self.on_word("no-listener", filters[0] if filters else self.main.opening, "no filter has the listener, so no call is notified, and no policy is asked",
                                cure if filters else "name calls among the settings, as `notify mknod mount`")
 
-    def programs(self):
+    def programs(self) -> Iterator[Finding]:
         started = {line.operands[0].text for program in self.script.programs for line in starts(program)}
         for program in self.script.programs[:-1]:
             if program.name not in started:
@@ -95,12 +95,12 @@ class Likely:
             pending += [(f"{name}.{number}", named[child.operands[0].text], child) for number, child in enumerate(starts(program), 1)]
         return found
 
-    def names_of_tasks(self):
+    def names_of_tasks(self) -> str:
         """A sentence with the tasks of the script, or how to find them where they are many."""
         names = [name for name, _ in self.tasks()]
         return f"the tasks of this script are {listed(names)}" if len(names) <= FEW else "count the lines `spawn` and `thread` of its program"
 
-    def schedule(self):
+    def schedule(self) -> Iterator[Finding]:
         schedule = self.script.schedule
         if schedule is None:
             yield self.on_word("no-schedule", self.main.opening, "there is no schedule, so `play`, `handover` and `judge` let nobody step",
@@ -112,7 +112,7 @@ class Likely:
         yield from self.scheduled_tasks(schedule)
         yield from self.scheduled_workers(schedule)
 
-    def unused_schedule(self, use):
+    def unused_schedule(self, use: str) -> Iterator[Finding]:
         """A schedule where nobody goes by it."""
         schedule = self.script.schedule
         if schedule is not None:
@@ -139,19 +139,19 @@ class Likely:
                 told.add(line.number)
                 yield self.on_word("task-never-steps", line, f"task {name} isn't in the schedule, so it never steps", f"add `t {name} COUNT` to the schedule")
 
-    def scheduled_workers(self, schedule):
+    def scheduled_workers(self, schedule: Block) -> Iterator[Finding]:
         notifies = self.script.named("notify") or any(block.opening.operands for block in self.script.blocks if block.opening.word == "filter")
         if notifies and not any(line.word == "w" for line in schedule.lines):
             yield self.on_word("no-worker-steps", schedule.opening, "no worker is in the schedule, so a call that is notified waits for ever", "add `w 0 COUNT`: nine steps grant a mknod")
 
 
-def numbers_and_texts(text):
+def numbers_and_texts(text: Text) -> List[Finding]:
     """Numbers and texts that C reads otherwise."""
     found = Likely(text)
     return [*found.octal_numbers(), *found.octal_escapes()]
 
 
-def findings(text, use=PLAY):
+def findings(text: Text, use: str = PLAY) -> List[Finding]:
     """All that is likely a mistake in a script that is used so, in the order of its place."""
     found = Likely(text)
     of_schedule = found.schedule() if use == PLAY else found.unused_schedule(use)

@@ -2,6 +2,7 @@
 from __future__ import annotations
 
 from dataclasses import dataclass
+from typing import Any
 
 from tools.commands.messages.requests import is_request
 from tools.commands.messages.script_lines import START, number_of
@@ -45,7 +46,7 @@ def totals_of(programs):
     return known
 
 
-def program_exceeds(script):
+def program_exceeds(script: Any) -> Any:
     found = totals_of(script.programs)[script.open.name]
     for what, count, most in (("executes {} instructions", found.instructions, MOST_INSTRUCTIONS), ("makes {} calls", found.calls, MOST_CALLS), ("starts {} tasks", found.tasks, MOST_TASKS),
                               ("stores {} bytes", found.stored, MOST_STORED), ("nests {} deep", found.depth, MOST_DEPTH)):

@@ -3,7 +3,7 @@ from __future__ import annotations
 
 import errno
 import re
-from typing import TYPE_CHECKING, Optional
+from typing import TYPE_CHECKING, Any, Optional, Tuple, Union
 
 from tools.commands.messages import requests
 from tools.commands.messages import script_words as words
@@ -12,7 +12,7 @@ from tools.commands.messages.policy_words import ERRORS
 from tools.commands.messages.script_lines import NUMBER, Token, is_task, number_of
 
 if TYPE_CHECKING:
-    from tools.commands.messages.script_lines import Line
+    from tools.commands.messages.script_lines import Line, Script
     from tools.commands.messages.script_words import Form, Operand
 
 WRONG_FORM, BAD_NUMBER, OUT_OF_RANGE, BAD_PATH, UNKNOWN_NAME = "wrong form", "bad number", "out of range", "bad path", "unknown name"
@@ -29,19 +29,19 @@ def form_of(line: Line) -> Form:
     return words.FORMS[line.word]
 
 
-def named(line):
+def named(line: Line) -> str:
     """What a line is called in a sentence: its word, or what a worker asks for."""
     form = form_of(line)
     return form.words if isinstance(form, requests.Request) else line.word
 
 
-def words_among(line):
+def words_among(line: Line) -> int:
     """How many of the tokens behind a line's first word are no operands: a worker's number, and the words of what it asks for."""
     form = form_of(line)
     return 1 + len(form.words.split(" ")) if isinstance(form, requests.Request) else 0
 
 
-def has_words_alone(form):
+def has_words_alone(form: Union[Form, requests.Request]) -> bool:
     return not form.operands or (isinstance(form, requests.Request) and not form.behind)
 
 
@@ -116,7 +116,7 @@ def reason_of(operand: Operand, token: Token) -> Optional[str]:
     return BAD_NUMBER if number is None else None if is_in_range(operand, number) else OUT_OF_RANGE
 
 
-def culprit(line, reason):
+def culprit(line: Line, reason: str) -> Optional[Tuple[Token, Operand]]:
     """The first operand of a line that shows a reason, with what it has to be; None where none does."""
     form = form_of(line)
     pairs = zip(line.operands, (form.operand(place) for place in range(len(line.operands)))) if form.operands else ()
@@ -126,7 +126,7 @@ def culprit(line, reason):
 # ---- what is wrong with it. Each answers the words and the cure
 
 
-def wrong_form(line, token, operand):
+def wrong_form(line: Line, token: Token, operand: Operand) -> Tuple[str, str]:
     if not token.is_quoted:
         text = token.text.strip("'`")
         if token.text[:1] in "'`":
@@ -146,7 +146,7 @@ def packed(major: int, minor: int) -> int:
     return (major & 0xFFF) << 8 | (major & ~0xFFF) << 32 | minor & 0xFF | (minor & ~0xFF) << 12
 
 
-def in_c(text):
+def in_c(text: str) -> Optional[int]:
     """The number that a part of an expression of C is, or None."""
     if text in words.CONSTANTS:
         return words.CONSTANTS[text]
@@ -155,7 +155,7 @@ def in_c(text):
     return number_of(text)
 
 
-def written(number, text):
+def written(number: int, text: str) -> str:
     """A number as a script has it, in octal where that is how it was meant."""
     return f"0o{number:o}" if number >= 0 and re.search(r"S_I|O_|\b0[0-7]", text) else str(number)
 
@@ -226,7 +226,7 @@ def bad_number(line, token, operand, script):
     return f"{text} is no number", f"{HOW}; {operand.called} of `{named(line)}` is one, as in `{form_of(line).example}`"
 
 
-def answer_of(operand, text):
+def answer_of(operand: Operand, text: str) -> Optional[int]:
     """The number that a name of an error, or of a flag, stands for in an answer; None where it isn't one."""
     if operand.name == "ERROR" and text.lstrip("-") in ERRORS:
         return -getattr(errno, text.lstrip("-"))
@@ -235,7 +235,7 @@ def answer_of(operand, text):
     return None
 
 
-def bad_task(text, script):
+def bad_task(text: str, script: Script) -> Tuple[str, str]:
     """A word that names no task."""
     rule = "tasks are named by their place: `0` is the first one, and `0.2` the second that it starts"
     named = [program.name for program in script.programs]
@@ -254,7 +254,7 @@ def bad_task(text, script):
 POWERS = {-(2**63): "-2^63", 2**63 - 1: "2^63 - 1", words.WIDE: "2^64 - 1"}
 
 
-def span(operand):
+def span(operand: Operand) -> str:
     """The range of a number, in words."""
     if operand.kind == "page":
         return "a multiple of 4096 up to 2^47"
@@ -287,14 +287,14 @@ def is_like_octal(text: str) -> bool:
     return re.fullmatch(r"0+[1-7][0-7]+", text) is not None
 
 
-def text_out_of_range(line, token, operand):
+def text_out_of_range(line: Any, token: Any, operand: Any) -> Any:
     if not operand.zeros and b"\0" in token.content:
         hint = "leave out the `\\0` at its end: only the bytes of `poke` need one" if token.content.endswith(b"\0") else "leave it out"
         return f"{operand.name} has a zero byte", hint
     return f"{operand.name} has {len(token.content)} bytes", f"{operand.name} of `{named(line)}` has {operand.least} to {operand.most}"
 
 
-def bad_path(token):
+def bad_path(token: Any) -> Any:
     """What is wrong with a path by itself; None where it is one."""
     content = token.content
     if content.endswith(b"\0"):
@@ -319,7 +319,7 @@ def bad_path(token):
     return None
 
 
-def unknown_name(line, token, operand, script):
+def unknown_name(line: Line, token: Token, operand: Operand, script: Script) -> Tuple[str, str]:
     text = token.text
     if operand.kind in ("call", "call name"):
         return unknown_call(line, text)

@@ -7,7 +7,7 @@ from __future__ import annotations
 import errno
 import json
 import re
-from typing import TYPE_CHECKING, List, Optional, Tuple
+from typing import TYPE_CHECKING, Any, List, Optional, Tuple
 
 from tools.commands.command_line import table
 from tools.commands.messages.findings import advice, listed, meant, near
@@ -56,7 +56,7 @@ class Checker:
     def tell(self, value: Value, words: str, cure: str) -> None:
         self.found.append(self.text.finding("profile", value.start, value.end, words, cure))
 
-    def key(self, value, key, known, what, cure):
+    def key(self, value: Value, key: str, known: Tuple[str, ...], what: str, cure: str) -> Optional[Value]:
         """The value of a key that has to be there."""
         found = member(value, key)
         if found is None:
@@ -73,7 +73,7 @@ class Checker:
             self.tell(value, f"{what} is {said(value)}, and no {kind}" if kind != "string" else f"{what} is {said(value)}, and no text", cure)
         return value.kind == kind
 
-    def number(self, value, what, most):
+    def number(self, value: Any, what: str, most: int) -> None:
         """A whole number within its range."""
         number = whole(value)
         if number is None or not 0 <= number <= most:

@@ -1,8 +1,10 @@
 """Reads what the program says as it ends, and adds what it means."""
+from __future__ import annotations
+
 import os
 import re
 from dataclasses import dataclass
-from typing import Callable
+from typing import Any, Callable, Dict, List, Optional, Tuple
 
 from tools.commands.command_line import table
 from tools.commands.messages import policies
@@ -22,7 +24,7 @@ CALLED = {"new policy": "a policy", "calls": "a file of calls", "claims": "a fil
 OF_OPERANDS = {"old": "policy", "new": "new policy"}
 
 
-def parted(entry, operands):
+def parted(entry: Dict[str, Any], operands: List[str]) -> Tuple[List[str], List[Any]]:
     """The operands without the words of options that have no dash, as `every 5`, and those options with what is given to each."""
     named = {it["names"][0]: it for it in entry.get("options", []) if not it["names"][0].startswith("-")}
     before = next((at for at, it in enumerate(entry["operands"], 1) if it["name"] == "CPUS"), None)
@@ -31,7 +33,7 @@ def parted(entry, operands):
     return operands[:before] + operands[before + 2:], [(named[operands[before]], *operands[before + 1:before + 2])]
 
 
-def files_in(entry, operands, container):
+def files_in(entry: Dict[str, Any], operands: List[str], container: int) -> Dict[str, str]:
     """The files that the operands name, by what the program calls them; of a pod those of one container."""
     operands, _ = parted(entry, operands)
     if entry["word"] == "pod":
@@ -52,7 +54,7 @@ def data_of(path):
         return None
 
 
-def read_fault(path):
+def read_fault(path: Optional[str]) -> List[str]:
     """Why a file can't be read, and which one is near; without a path it is standard input."""
     if path is None:
         return ["standard input can't be opened as /dev/stdin, or can't be read", *filled("help: ", "give it a pipe, a file or a terminal; a socket, or an input that is closed, can't be opened")]
@@ -70,7 +72,7 @@ def read_fault(path):
     return []
 
 
-def too_long(kind, path):
+def too_long(kind: str, path: str) -> List[str]:
     size = os.path.getsize(path) if os.path.isfile(path) else None
     return [f"{shown(path)}: {f'it has {size} bytes' if size is not None else 'it is longer'}, and {CALLED.get(kind, f'a {kind}')} has at most {LIMITS[kind]}"]
 
@@ -79,7 +81,7 @@ def overlap(one, other):
     return filled("help: ", f"the scripts of containers {one} and {other} have a PID in common: give one of them `pidmax N` and `pidbase M`, so that it has the PIDs M + 1 to M + N alone")
 
 
-def wrong_operand(item, given=None):
+def wrong_operand(item: Any, given: Optional[str] = None) -> Optional[str]:
     """What is wrong with an operand, or what is given to an option, that is a number, or None."""
     if given is None:
         return f"a number comes after {item['names'][0]}"
@@ -91,7 +93,7 @@ def wrong_operand(item, given=None):
     return f"{item.get('name') or item['value']} is a number from {item['from']} to {item['to']}{also}, and not {shown(given)}"
 
 
-def counted(number, what):
+def counted(number: int, what: str) -> str:
     return f"{number} {what}{'' if number == 1 else 's'}"
 
 
@@ -100,18 +102,18 @@ def in_pairs(operands):
     return f"one to eight pairs of a policy and a script follow the two numbers, not {counted(len(operands) - 2, 'file')}"
 
 
-def least_count(entry):
+def least_count(entry: Dict[str, Any]) -> int:
     """How many operands a word has at least: its form has the others in brackets."""
     return sum(f"[{it['name']}]" not in entry["forms"][0] for it in entry["operands"])
 
 
-def wrong_count(entry, operands):
+def wrong_count(entry: Dict[str, Any], operands: List[str]) -> str:
     most, least = len(entry["operands"]), least_count(entry)
     front = "at least " if entry["operands"][-1].get("repeats") else f"{least} or " if least < most else ""
     return f"{entry['word']} needs {front}{counted(most, 'argument')}, got {len(operands) or 'none'}"
 
 
-def usage(entry, operands, command):
+def usage(entry: Dict[str, Any], operands: List[str], command: str) -> List[str]:
     """The form of a word of the program, and what is wrong with those behind it."""
     form = f"usage: {command} {entry['word']} {entry['forms'][0]}"
     items = entry["operands"]
@@ -137,7 +139,7 @@ class Said:
     line: str
     command: str
 
-    def split(self):
+    def split(self) -> Tuple[str, Dict[str, str]]:
         """The line without its container, and the files that it may be about."""
         of_pod = CONTAINER.fullmatch(self.line)
         return (of_pod[2], files_in(self.entry, self.operands, int(of_pod[1]))) if of_pod else (self.line, files_in(self.entry, self.operands, 0))
@@ -171,12 +173,12 @@ class Said:
         return of_report(files, int(report[1])) if report and of_report else []
 
 
-def explained_text(path, explain: Callable):
+def explained_text(path: str, explain: Callable) -> List[str]:
     """The message of what is found in a file; none where it can't be read again."""
     data = data_of(path)
     found = explain(data) if data is not None else None
     return message(found, path, Text(data)) if found else []
 
 
-def entry_of(word):
+def entry_of(word: str) -> Dict[str, Any]:
     return table.entry(table.read(), word)

@@ -1,6 +1,9 @@
 """Explains why the program refuses a report: what the line is, and what a legal history has there, as far as a play of the same steps shows it."""
+from __future__ import annotations
+
 import re
 from dataclasses import dataclass
+from typing import Dict, List, Optional, Tuple
 
 from tools.commands.explored import MOST_STEPS, Broker, NotPlayed, lines_of
 from tools.commands.messages.findings import Finding, Text, advice, message, whole_file
@@ -32,7 +35,7 @@ class Where:
     name: str
 
 
-def where(lines, line):
+def where(lines: List[str], line: int) -> Where:
     """What the line with this number is, by the counts that the lines above state."""
     at = 1
     for part, form in HEAD.items():
@@ -53,13 +56,13 @@ def actor_of(line):
     return found[1] if found else None
 
 
-def actors(lines, last):
+def actors(lines: List[str], last: int) -> List[str]:
     """Who steps in the events from 1 to this one, without the close."""
     found = [actor_of(line) for line in lines[2:last + 2]]
     return found[:-1] if found and found[-1] == "listener" else found
 
 
-def can_be_scheduled(names):
+def can_be_scheduled(names: List[str]) -> bool:
     return len(names) <= MOST_STEPS and all(name and name[0] in "tw" and not (name[0] == "w" and int(name[1:]) > MOST_WORKER) for name in names)
 
 
@@ -82,7 +85,7 @@ def expected(program, files, lines, line, place):
     return played[line - 1] if line <= len(played) and played[first:line - 1] == lines[first:line - 1] else None
 
 
-def suspicion(place, line, wanted):
+def suspicion(place: Where, line: str, wanted: str) -> str:
     """What may be another one than that of the report, by a line and the one that a legal history has there."""
     if place.part == "audit":
         return "is the policy that of the report? " if re.findall("rule=\\S+", line) != re.findall("rule=\\S+", wanted) else ""
@@ -95,7 +98,7 @@ def suspicion(place, line, wanted):
     return "is the policy that of the report? " if {word, other} <= DECIDED and (word != other or word == "send") else ""
 
 
-def differs_at(line, wanted):
+def differs_at(line: str, wanted: str) -> Tuple[int, int]:
     """From where to where a line differs from another one, by whole words."""
     same = next((at for at, (one, other) in enumerate(zip(line, wanted)) if one != other), min(len(line), len(wanted)))
     start = line.rfind(" ", 0, same) + 1
@@ -103,7 +106,7 @@ def differs_at(line, wanted):
     return start, max(len(line) if end < 0 else end, start + 1)
 
 
-def other_file(text, line):
+def other_file(text: Text, line: int) -> Optional[Finding]:
     """What a file is that isn't a report, where its first line tells; and ledgers behind a report. None of another one."""
     content = text.line(line)
     if content.startswith("handovers "):
@@ -117,7 +120,7 @@ def closes_early(lines, place, content):
     return place.part == "journal" and actor_of(content) == "listener" and place.number + 1 < int(HEAD["journal"].fullmatch(lines[0])[1])
 
 
-def fault_of_form(lines, place, content):
+def fault_of_form(lines: List[str], place: Where, content: str) -> str:
     """What is wrong with a line whatever the history; empty where nothing is."""
     if place.part == "behind":
         return "nothing may follow the summary"
@@ -137,7 +140,7 @@ def fault_of_form(lines, place, content):
     return ""
 
 
-def ends_early(text, line):
+def ends_early(text: Text, line: int) -> Optional[Finding]:
     """What is said where the file ends before its report does, or its last line has no newline."""
     if line == len(text.lines) and text.lines[-1] == "":
         return whole_file("cut", "the file ends here, and its report goes on: all lines are the beginning of one", "look whether the file was cut as it was copied")
@@ -154,7 +157,7 @@ def has_other_line_ends(text, line):
     return Finding("line-ends", line, len(content) - 1, 1, "this line ends with CR and LF", "a report's lines end with LF alone: `sed 's/\\r$//'`")
 
 
-def finding_of(program, files, data, line):
+def finding_of(program: str, files: Dict[str, str], data: bytes, line: int) -> Finding:
     """What is known of the line that the program named."""
     text = Text(data)
     known = has_other_line_ends(text, line) or other_file(text, line) or ends_early(text, line)
@@ -172,7 +175,7 @@ def finding_of(program, files, data, line):
     return Finding("refused", line, start, end - start, words, advice(suspicion(place, content, wanted), f"after these lines a legal history{step} has `{wanted}`"))
 
 
-def explained_report(program, files, number):
+def explained_report(program: str, files: Dict[str, str], number: int) -> List[str]:
     """The message of a refused report; none where the file can't be read again."""
     data = data_of(files["report"])
     if data is None:

@@ -3,7 +3,7 @@ from __future__ import annotations
 
 import re
 from dataclasses import dataclass
-from typing import TYPE_CHECKING, Optional, Tuple
+from typing import TYPE_CHECKING, Any, Optional, Tuple
 
 from tools.commands.messages.findings import advice, listed, meant
 from tools.commands.messages.script_lines import number_of
@@ -36,7 +36,7 @@ class Request(Form):
     behind: str = ""
 
     @property
-    def usage(self):
+    def usage(self) -> str:
         return " ".join(["w N", self.words, *([self.behind] if self.behind else [])])
 
 
@@ -114,12 +114,12 @@ def unknown_call(token):
     return f"{token.text} is no call that a worker makes", advice(meant(token.text.strip('"'), ACTS), f"after `act` comes {listed(ACTS, 'or')}")
 
 
-def no_call():
+def no_call() -> Tuple[str, str]:
     """`act` without anything behind it."""
     return "no call follows `act`", f"after `act` comes {listed(ACTS, 'or')}, as in `{ACTS['mknod'].example}`"
 
 
-def no_count(line):
+def no_count(line: Line) -> Optional[Tuple[str, str]]:
     """What a word is that stands in the place of a worker's count, and is no number; None where nothing is known."""
     text = word_of(line.operands[1]) if line.word == "w" and len(line.operands) > 1 else ""
     if is_request(line):
@@ -136,7 +136,7 @@ def worker_of(line):
     return number_of(word_of(line.operands[0])) if line.word == "w" and line.operands else None
 
 
-def mixed(line, others):
+def mixed(line: Any, others: Any) -> Any:
     """A count of steps of a worker that has requests, or a request of one that has counts: the line of the other kind among those above it."""
     number = worker_of(line)
     above = next((other for other in others if worker_of(other) == number and is_request(other) != is_request(line)), None)
@@ -147,7 +147,7 @@ def mixed(line, others):
     return f"line {above.number} says what worker {number} asks for, and this line counts steps of it", A_KIND
 
 
-def hex_out_of_range(token, operand):
+def hex_out_of_range(token: Token, operand: Operand) -> Tuple[str, str]:
     """Digits that aren't as many as the bytes of a structure need."""
     count = f"{len(token.text)} {'digit' if len(token.text) == 1 else 'digits'}"
     hint = ", without `0x`" if token.text[:2] in ("0x", "0X") else ""

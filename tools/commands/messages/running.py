@@ -5,7 +5,7 @@ import os
 import signal
 import subprocess
 import sys
-from typing import Any, Dict, List
+from typing import Any, Callable, Dict, Iterator, List, Tuple
 
 from tools.commands.command_line import children
 from tools.commands.messages.speaking import say
@@ -19,7 +19,7 @@ SCHEDULED = ("play", "handover", "judge")
 OF_SCHEDULES = ("no-schedule", "task-never-comes", "task-never-steps", "no-worker-steps")
 
 
-def passed_on(process, before):
+def passed_on(process: Any, before: Any) -> str:
     """Passes on what a process says on standard error, but for the forms of all words, and calls `before` in front of each line; the last line that isn't the command's own."""
     last = b""
     for line in process.stderr:
@@ -34,7 +34,7 @@ def passed_on(process, before):
     return last.decode("utf-8", "replace").rstrip("\n")
 
 
-def run_beside(path, words, before=lambda: None):
+def run_beside(path: str, words: List[str], before: Callable[..., Any] = lambda: None) -> Tuple[int, str]:
     """Runs the program, whose output is this process's own. How it ended, and the last line that it said; `before` is called in front of each line."""
     # (a background job of a shell inherits an ignored interrupt, and so does the program then)
     passed = [number for number in (signal.SIGINT, signal.SIGTERM, signal.SIGHUP) if signal.getsignal(number) != signal.SIG_IGN]
@@ -57,7 +57,7 @@ def end_as(status: int) -> int:
     return status
 
 
-def warnings(entry, operands, asked):
+def warnings(entry: Dict[str, Any], operands: List[str], asked: bool) -> Iterator[List[str]]:
     """What the program takes and is likely a mistake. Keys that are almost LXD's are told always, since nobody means them; the rest if it is asked for."""
     from tools.commands.messages import policies
     from tools.commands.messages.findings import Text, message

@@ -3,9 +3,12 @@ from __future__ import annotations
 
 import re
 from dataclasses import dataclass, field
-from typing import List, Optional, Tuple
+from typing import TYPE_CHECKING, Iterator, List, Optional, Tuple
 
 from tools.commands.messages.script_words import BLOCKS, FILTER, PROGRAM, SCHEDULE, SETTINGS
+
+if TYPE_CHECKING:
+    from tools.commands.messages.findings import Text
 
 BLANKS = " \t"
 BARE = re.compile(r"[!#-\[\]-~]+")
@@ -21,7 +24,7 @@ TYPOGRAPHIC = {"“": '"', "”": '"', "„": '"', "«": '"', "»": '"', "\u00a0
 class LineFault(Exception):
     """A line that can't be split into tokens: from where to where, what is wrong, and what would be right."""
 
-    def __init__(self, start, end, words, cure):
+    def __init__(self, start: int, end: int, words: str, cure: str) -> None:
         super().__init__(words)
         self.found = (start, end, words, cure)
 
@@ -91,7 +94,7 @@ class Script:
         """The block that isn't closed yet, or None."""
         return self.blocks[-1] if self.blocks and self.blocks[-1].end is None else None
 
-    def named(self, *words):
+    def named(self, *words: str) -> List[Line]:
         """The settings with one of these words."""
         return [line for line in self.settings if line.word in words]
 
@@ -154,7 +157,7 @@ def quoted(line: str, start: int) -> Token:
     return Token(line[start:at + 1], start, at + 1, bytes(content))
 
 
-def outside_fault(line, at):
+def outside_fault(line: str, at: int) -> LineFault:
     """What is wrong with a character outside of quotes that begins no token."""
     letter = line[at]
     word = line[max(line.rfind(blank, 0, at) for blank in BLANKS) + 1:at]
@@ -171,7 +174,7 @@ def outside_fault(line, at):
     return LineFault(at, at + 1, f"{letter} isn't ASCII, and is outside of quotes", "words, names and numbers have only visible ASCII characters; other text is in double quotes")
 
 
-def touching(at):
+def touching(at: int) -> LineFault:
     return LineFault(at, at + 1, "a token touches a quoted text", "put a blank between the two; a `\"` inside of a text is `\\\"`")
 
 
@@ -198,7 +201,7 @@ def tokens_of(line):
     return tuple(found)
 
 
-def lines_of(text, first=1, last=None):
+def lines_of(text: Text, first: int = 1, last: Optional[int] = None) -> Iterator[Line]:
     """The lines that have tokens, from one number to another, up to the first that can't be split."""
     for number in range(first, (len(text.lines) if last is None else last) + 1):
         try:
@@ -209,7 +212,7 @@ def lines_of(text, first=1, last=None):
             yield Line(number, tokens)
 
 
-def script_of(text, last=None):
+def script_of(text: Text, last: Optional[int] = None) -> Script:
     """The script of a text, up to a line."""
     script = Script()
     for line in lines_of(text, 1, last):
@@ -243,7 +246,7 @@ def starts(program: Block) -> List[Line]:
     return [line for line in program.lines if line.word in START]
 
 
-def program_of(script, task):
+def program_of(script: Script, task: str) -> Tuple[Optional[Block], str]:
     """The program that a task runs, or None where it never comes, and how far its name leads."""
     named = {program.name: program for program in script.programs}
     found, known = script.programs[-1], "0"

@@ -30,7 +30,7 @@ class Operand:
         return self.kind in ("path", "root", "text")
 
     @property
-    def called(self):
+    def called(self) -> str:
         """What it is called in a sentence."""
         return "the path" if self.kind in ("path", "root") else self.name
 
@@ -75,7 +75,7 @@ def device(word: str) -> Form:
     return Form(word, SETTINGS, (PATH, Operand("MAJOR", most=4095), Operand("MINOR", most=1_048_575)), f'{word} "/dev/{"null" if word == "chr" else "sda"}" {"1 3" if word == "chr" else "8 0"}')
 
 
-def instruction(word, *operands):
+def instruction(word: str, *operands: Operand) -> Form:
     return Form(word, FILTER, operands, " ".join([word, *("0" for _ in operands)]))
 
 

@@ -1,10 +1,16 @@
 """Explains why the program refuses a script: the line and the reason that it named lead to the place, to what is wrong and to what would be right."""
+from __future__ import annotations
+
 import re
+from typing import TYPE_CHECKING, Any, Callable, List, Optional, Tuple
 
 from tools.commands.messages import filters, limits, operands, requests
 from tools.commands.messages import script_words as words
 from tools.commands.messages.findings import Text, advice, listed, meant, whole_file
 from tools.commands.messages.script_lines import FILTER, PROGRAM, SCHEDULE, SETTINGS, Line, LineFault, number_of, script_of, tokens_of
+
+if TYPE_CHECKING:
+    from tools.commands.messages.script_lines import Script, Token
 
 FIRST_MAP = ((0x10000, 16),)
 # what is said where the place in the line can't be told, by the reason that the program names (docs/reference/SCRIPT.md, Refusals of a script)
@@ -33,23 +39,23 @@ PLAIN = {
 class Asked:
     """A line that the program refuses, with the script above it."""
 
-    def __init__(self, text, line):
+    def __init__(self, text: Any, line: int) -> None:
         self.text, self.number = text, line
         self.script = script_of(text, line - 1)
         self.line = Line(line, tokens_of(text.line(line)))
 
     @property
-    def first(self):
+    def first(self) -> Token:
         return self.line.tokens[0]
 
-    def at(self, token, told):
+    def at(self, token: Any, told: Any) -> Any:
         return (token.start, token.end, *told)
 
-    def on_word(self, told, cure):
+    def on_word(self, told: str, cure: str) -> Tuple[int, int, str, str]:
         return self.at(self.first, (told, cure))
 
 
-def comment_behind(line):
+def comment_behind(line: Line) -> Optional[Token]:
     """The token with which a comment begins behind a statement, or None."""
     names = 1 if line.word in ("prog", "spawn", "thread") else 0
     return next((token for token in line.operands[names:] if not token.is_quoted and token.text.startswith(("#", "//", ";"))), None)
@@ -58,7 +64,7 @@ def comment_behind(line):
 # ---- the reasons. Each answers from where to where, what is wrong and what would be right, or None where it finds nothing
 
 
-def unknown_word(asked):
+def unknown_word(asked: Any) -> Any:
     first, text = asked.first, asked.first.text
     if first.is_quoted:
         return asked.on_word("a line begins with a word, and this is a quoted text", "write the word without quotes, as in `poke 0x10000 \"/null\\0\"`")
@@ -79,7 +85,7 @@ def unknown_word(asked):
     return asked.on_word(f"{text} is no word of a script", advice(hint, belongs_to(part, known)))
 
 
-def of_session(asked):
+def of_session(asked: Asked) -> Optional[Tuple[str, str]]:
     """What is wrong with a line of a session, or of a report, in a schedule; None of another line."""
     text, whole = asked.first.text, asked.text.line(asked.number).strip()
     if requests.OF_SESSION.fullmatch(text):
@@ -93,13 +99,13 @@ def of_session(asked):
     return None
 
 
-def belongs_to(part, known):
+def belongs_to(part: str, known: List[str]) -> str:
     """A sentence with the words that may stand in a part."""
     names = {SETTINGS: "among the settings", FILTER: "in a filter", PROGRAM: "in a program", SCHEDULE: "in a schedule"}
     return f"{names[part]} are {listed(known)}" if part in names else f"after a program's `end` come {listed(['prog', 'schedule'])}"
 
 
-def out_of_place(asked):
+def out_of_place(asked: Asked) -> Tuple[int, int, str, str]:
     word, script = asked.line.word, asked.script
     block = script.open
     if word == "end":
@@ -125,7 +131,7 @@ def out_of_place(asked):
     return asked.on_word(f"{inside}, and `{word}` is a line of a {part}", f"put `end` before it if the {block.kind} ends here; a line `{word}` is inside of a {part}")
 
 
-def misplaced(asked, word, script):
+def misplaced(asked: Asked, word: str, script: Script) -> Tuple[int, int, str, str]:
     """A word outside of all blocks."""
     part = words.FORMS[word].part
     if script.schedule and word in words.BLOCKS:
@@ -139,7 +145,7 @@ def misplaced(asked, word, script):
     return asked.on_word(f"`{word}` is a line of a {part}, and none is open", f"put it between `{opening}` and its `end`")
 
 
-def wrong_count(asked):
+def wrong_count(asked: Any) -> Any:
     line, form = asked.line, operands.form_of(asked.line)
     if requests.is_request(line) and requests.form_of(line) is None:
         return asked.at(line.operands[1], requests.no_call())
@@ -162,10 +168,10 @@ def wrong_count(asked):
     return (start, line.tokens[-1].end, f"`{operands.named(line)}` has {count} here, which is too {'few' if few else 'many'}", form_text)
 
 
-def of_operand(reason, explain):
+def of_operand(reason: str, explain: Callable[..., Any]) -> Callable[..., Any]:
     """An explanation of the first operand that shows a reason by itself."""
 
-    def explained(asked):
+    def explained(asked: Any) -> Any:
         found = operands.culprit(asked.line, reason)
         return asked.at(found[0], explain(asked, *found)) if found else None
 
@@ -186,7 +192,7 @@ def out_of_range(asked):
     return None
 
 
-def ranges(script):
+def ranges(script: Any) -> Any:
     """The stated ranges of memory: from where, how many pages, and the line."""
     return [(number_of(line.operands[0].text), number_of(line.operands[1].text), line.number) for line in script.named("map")]
 
@@ -201,7 +207,7 @@ def overlapping(asked):
     return (asked.line.operands[0].start, asked.line.operands[-1].end, f"these pages end at {end:#x}", "a range ends at 2^47 (0x800000000000) at most") if end > operands.END_OF_ADDRESSES else None
 
 
-def bad_path(asked):
+def bad_path(asked: Any) -> Any:
     line = asked.line
     token = line.operands[0]
     alone = operands.bad_path(token)
@@ -224,7 +230,7 @@ def bad_path(asked):
     return asked.at(token, (f"the directory {above} isn't stated above", f'put `dir "{above}"` above this line')) if parent else None
 
 
-def unknown_name(asked):
+def unknown_name(asked: Any) -> Any:
     found = operands.culprit(asked.line, operands.UNKNOWN_NAME)
     if found:
         return asked.at(found[0], operands.unknown_name(asked.line, *found, asked.script))
@@ -241,7 +247,7 @@ def unknown_name(asked):
     return asked.at(token, (f"no program above has the name {token.text}", advice(meant(token.text, closed), known)))
 
 
-def duplicate(asked):
+def duplicate(asked: Any) -> Any:
     line, script = asked.line, asked.script
     if line.word == "prog":
         other = next((it.opening for it in script.programs if it.name == line.operands[0].text), None)
@@ -272,7 +278,7 @@ def unmapped(asked):
     return asked.at(line.operands[0], (f"nothing is mapped at {at:#x}; mapped is {known}", cure))
 
 
-def second_listener(asked):
+def second_listener(asked: Any) -> Any:
     first = next((it for it in [*asked.script.settings, *(block.opening for block in asked.script.blocks)] if it.word == "notify" or (it.word == "filter" and it.operands)), None)
     if first is None:
         return None
@@ -281,21 +287,21 @@ def second_listener(asked):
     return asked.on_word(f"line {first.number} has the listener already", cure)
 
 
-def no_listener(asked):
+def no_listener(asked: Asked) -> Tuple[int, int, str, str]:
     return asked.on_word("`killable` is about the listener, and no line above has one", "put it below the line `notify ..`, or below the filter with the listener")
 
 
-def bad_filter(asked):
+def bad_filter(asked: Any) -> Any:
     found = filters.fault_of(asked.script.open, asked.line)
     return found and (found[0].tokens[0].start, found[0].tokens[-1].end, *found[1:]) + (found[0].number,)
 
 
-def too_large(asked):
+def too_large(asked: Asked) -> Tuple[int, int, str, str]:
     found = limits.exceeded(asked.script, asked.line)
     return found and asked.on_word(*found)
 
 
-def not_closed(asked):
+def not_closed(asked: Asked) -> Tuple[int, int, str, str]:
     word = asked.line.word
     return asked.on_word(f"`{word}` opens a block that has no `end`", f"put a line `end` after the {'last instruction' if word != 'schedule' else 'last line of the schedule'}")
 
@@ -319,7 +325,7 @@ def place_and_words(asked, reason):
     return explain(asked) if explain else None
 
 
-def finding_of_requests(data):
+def finding_of_requests(data: bytes) -> Any:
     """What it means that a word refuses a schedule, since a worker of another broker asks for something there."""
     text = Text(data)
     schedule = script_of(text).schedule
@@ -331,7 +337,7 @@ def finding_of_requests(data):
                         "`handover` replaces this project's own worker, whose steps are counted, as in `w 0 9`; `play` plays this schedule")
 
 
-def finding_of(data, number, reason):
+def finding_of(data: bytes, number: int, reason: str) -> Any:
     """What the program's refusal of a script means, by the line and the reason that it named."""
     text, name = Text(data), reason.replace(" ", "-")
     if reason == "no program":

@@ -1,4 +1,8 @@
 """Completions for bash, zsh and fish, made of the table of words."""
+from __future__ import annotations
+
+from typing import Any, Dict, List, Tuple
+
 from tools.commands.command_line import table
 
 # ranges up to this one are offered number by number
@@ -6,7 +10,7 @@ FEW = 20
 MADE = "made of the table of words; its source is tools/commands/command_line/words.json"
 
 
-def offered(item):
+def offered(item: Dict[str, Any]) -> List[str]:
     """The words that are offered for what an operand or an option takes."""
     if item["takes"] == "choice":
         return item["choices"]
@@ -16,22 +20,22 @@ def offered(item):
     return []
 
 
-def options(known, entry):
+def options(known: Dict[str, Any], entry: Dict[str, Any]) -> List[Dict[str, Any]]:
     return [*table.options(known, entry), {"names": ["--help"], "help": "prints the command's page"}]
 
 
-def first_words(known):
+def first_words(known: Dict[str, Any]) -> List[Tuple[str, str]]:
     """What may stand behind the command, with its help."""
     words = [(it["word"], it["summary"]) for it in known["words"]]
     return [*words, (table.HELP, "prints the list of commands, or the page of one")] + [(it["names"][0], it["help"]) for it in known["options"] if "only" not in it]
 
 
-def marked(known, entry):
+def marked(known: Dict[str, Any], entry: Dict[str, Any]) -> List[Dict[str, Any]]:
     """The options that begin with a dash, which zsh and fish know alone."""
     return [it for it in options(known, entry) if it["names"][0].startswith("-")]
 
 
-def bash_kind(item):
+def bash_kind(item: Dict[str, Any]) -> str:
     """How the function below is told what to offer."""
     kinds = {"file": "file", "folder": "folder", "pid": "pid", "command": "command"}
     return kinds.get(item["takes"]) or f"words {' '.join(offered(item))}".strip()
@@ -78,7 +82,7 @@ complete -F _seccomp_broker seccomp-broker
 """
 
 
-def bash():
+def bash() -> str:
     known = table.read()
     cases, values = [f"    help) operands=('words {' '.join(table.names(known))}') ;;"], []
     for entry in known["words"]:
@@ -95,17 +99,17 @@ def bash():
     return BASH.format(made=MADE, first=" ".join(word for word, _ in first_words(known)), cases="\n".join(cases), values="\n".join(values))
 
 
-def zsh_text(text):
+def zsh_text(text: str) -> str:
     """A text inside one of zsh's specifications."""
     return text.replace("{command}", "seccomp-broker").replace("\\", "\\\\").replace("[", "\\[").replace("]", "\\]").replace(":", "\\:").replace("'", "'\\''")
 
 
-def zsh_action(item):
+def zsh_action(item: Dict[str, Any]) -> str:
     kinds = {"file": "_files", "folder": "_files -/", "pid": "_pids", "command": "_command_names -e"}
     return kinds.get(item["takes"]) or (f"({' '.join(offered(item))})" if offered(item) else " ")
 
 
-def zsh_arguments(known, entry):
+def zsh_arguments(known: Dict[str, Any], entry: Dict[str, Any]) -> str:
     found = []
     for it in marked(known, entry):
         value = f":{zsh_text(it['value'])}:{zsh_action(it)}" if "value" in it else ""
@@ -135,24 +139,24 @@ _seccomp_broker "$@"
 """
 
 
-def zsh():
+def zsh() -> str:
     known = table.read()
     first = " ".join(f"'{word}:{zsh_text(text)}'" for word, text in first_words(known))
     cases = "\n".join(f"    {it['word']}) _arguments {zsh_arguments(known, it)} ;;" for it in known["words"])
     return ZSH.format(made=MADE, first=first, names=" ".join(table.names(known)), cases=cases)
 
 
-def fish_text(text):
+def fish_text(text: str) -> str:
     return "'" + text.replace("{command}", "seccomp-broker").replace("\\", "\\\\").replace("'", "\\'") + "'"
 
 
-def fish_takes(item):
+def fish_takes(item: Dict[str, Any]) -> str:
     """The words that say what an operand or an option takes."""
     kinds = {"file": "-F", "folder": "-f -a '(__fish_complete_directories)'", "pid": "-f -a '(__fish_complete_pids)'", "command": "-f -a '(__fish_complete_command)'"}
     return kinds.get(item["takes"]) or (f"-f -a '{' '.join(offered(item))}'" if offered(item) else "-f")
 
 
-def fish():
+def fish() -> str:
     known = table.read()
     begin = "complete -c seccomp-broker"
     lines = [f"# fish completion for seccomp-broker, {MADE}", f"{begin} -f"]
@@ -173,6 +177,6 @@ def fish():
     return "\n".join(lines) + "\n"
 
 
-def files():
+def files() -> Dict[str, str]:
     """The files that shells read, below share/."""
     return {"bash-completion/completions/seccomp-broker": bash(), "zsh/vendor-completions/_seccomp-broker": zsh(), "fish/vendor_completions.d/seccomp-broker.fish": fish()}

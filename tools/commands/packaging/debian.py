@@ -1,4 +1,6 @@
 """The Debian packages, by Debian's own tools: the program's, the library's, and that of the library's headers."""
+from __future__ import annotations
+
 import hashlib
 import os
 import re
@@ -6,10 +8,14 @@ import shutil
 import subprocess
 import tempfile
 import time as clock
+from typing import TYPE_CHECKING, Any, Dict, List
 
 from tools.commands.packaging import files
 from tools.commands.packaging.made import NotMade
 from tools.commands.packaging.tree import File, Link, below, text, write, zipped
+
+if TYPE_CHECKING:
+    from tools.commands.packaging.made import Made
 
 LIBDIR = "lib/x86_64-linux-gnu"
 COPYRIGHT = """seccomp_broker, a simulator of a broker for seccomp user notifications
@@ -46,13 +52,13 @@ OVERRIDES = {
 }
 
 
-def has_symbols(path):
+def has_symbols(path: str) -> bool:
     """Whether strip would take something from a file."""
     listed = subprocess.run(["readelf", "-S", "--wide", path], stdout=subprocess.PIPE, stderr=subprocess.DEVNULL, universal_newlines=True)
     return ".symtab" in listed.stdout
 
 
-def shared_libraries(paths, own):
+def shared_libraries(paths: List[str], own: Any) -> List[str]:
     """What the programs need of other packages, as dpkg-shlibdeps finds it; the C library where that isn't there."""
     if not paths or shutil.which("dpkg-shlibdeps") is None:
         return ["libc6"]
@@ -80,7 +86,7 @@ def since(made):
     return f"{made.version}~"
 
 
-def control(made, package, depends, size, **more):
+def control(made: Made, package: str, depends: List[str], size: int, **more: str) -> str:
     summary, last = KINDS[package]
     fields = {"Package": package, "Source": None if package == "seccomp-broker" else "seccomp-broker", "Version": made.debian, "Architecture": "amd64",
               "Multi-Arch": "same" if package.startswith("lib") else None, "Maintainer": made.maintainer, "Installed-Size": str(size), "Section": SECTIONS[package],
@@ -88,7 +94,7 @@ def control(made, package, depends, size, **more):
     return "".join(f"{name.replace('_', '-')}: {value}\n" for name, value in fields.items() if value)
 
 
-def standing_documents(made, package):
+def standing_documents(made: Made, package: str) -> Dict[str, File]:
     """The files that each package has below /usr/share/doc."""
     date = clock.strftime("%a, %d %b %Y %H:%M:%S +0000", clock.gmtime(made.time))
     what = "Proved and built of commit" if made.is_proved else "A trial build, which isn't proved, of commit"
@@ -98,16 +104,16 @@ def standing_documents(made, package):
     return below({"copyright": text(COPYRIGHT.format(year=clock.gmtime(made.time).tm_year)), name: File(zipped(changes.encode()))}, f"share/doc/{package}")
 
 
-def size_of(tree):
+def size_of(tree: Dict[str, Any]) -> int:
     """Kibibytes, as Debian Policy counts them: files by their size rounded up, all else as one."""
     return sum(1 if isinstance(it, Link) else -(-len(it.data) // 1024) for it in tree.values()) + 1
 
 
-def sums(tree):
+def sums(tree: Dict[str, Any]) -> str:
     return "".join(f"{hashlib.md5(it.data).hexdigest()}  {name}\n" for name, it in sorted(tree.items()) if isinstance(it, File))
 
 
-def build(made, package, tree, depends, folder, extra=None, tags=(), **more):
+def build(made: Any, package: str, tree: Any, depends: Any, folder: str, extra: Any = None, tags: Any = (), **more: str) -> str:
     """Makes one package of files below /usr."""
     tree = {**tree, **standing_documents(made, package)}
     if tags:
@@ -126,7 +132,7 @@ def build(made, package, tree, depends, folder, extra=None, tags=(), **more):
     return name
 
 
-def packages(made, folder):
+def packages(made: Made, folder: str) -> List[str]:
     """Makes the packages in a folder, and gives their names."""
     documents = below(files.documents(), "share/doc/seccomp-broker")
     tree = {**files.command(made, "/usr/bin/python3"), **documents, "share/doc/seccomp-broker/examples": Link("../../seccomp-broker/examples"),

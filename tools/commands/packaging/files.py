@@ -1,9 +1,12 @@
 """The files that are installed, below a prefix: of the command, of the C library, and of its headers."""
+from __future__ import annotations
+
 import json
 import os
 import re
 import subprocess
 import tempfile
+from typing import Any, Dict, List, Set, Tuple
 
 from tools.commands.command_line import table
 from tools.commands.packaging import completions, manual, made as making
@@ -40,7 +43,7 @@ Libs: -L${{libdir}} -lseccomp_broker
 """
 
 
-def replaced(content, pairs, name):
+def replaced(content: str, pairs: List[Tuple[str, str]], name: str) -> str:
     for old, new in pairs:
         if old not in content:
             raise NotMade(f"{name} hasn't the text {old!r} any more")
@@ -56,7 +59,7 @@ def stripped(path):
             return File(file.read())
 
 
-def files_below(folder):
+def files_below(folder: str) -> Dict[str, File]:
     """The files of a folder that stand in the repository, by their names in it."""
     found = {}
     for at, folders, names in os.walk(f"{TOP}/{folder}"):
@@ -66,7 +69,7 @@ def files_below(folder):
     return found
 
 
-def examples():
+def examples() -> Dict[str, File]:
     found = files_below("examples")
     for built in ("c/policy_test", "c/step_broker_test"):
         found.pop(built, None)
@@ -75,7 +78,7 @@ def examples():
     return found
 
 
-def brokers_and_cases():
+def brokers_and_cases() -> Dict[str, File]:
     """Brokers that make a mistake each, judged sessions, and the cases that can be played as they are: those that the guides name."""
     cases = {os.path.relpath(at, TOP): set(names) for at, _, names in os.walk(f"{TOP}/cases")}
     played = [folder for folder, names in cases.items() if {"policy.json", "script.txt"} <= names and "make" not in names]
@@ -83,18 +86,18 @@ def brokers_and_cases():
     return {name: entry for name, entry in found.items() if not name.endswith(".md")}
 
 
-def shared():
+def shared() -> Dict[str, File]:
     """What the command's users read, copy and play, below share/seccomp-broker."""
     return {**below(examples(), "examples"), **calls_of_step(), **brokers_and_cases()}
 
 
-def calls_of_step():
+def calls_of_step() -> Dict[str, File]:
     """The header and the source that a broker of one's own in C takes, and that of the library for one as it is; they stand beside the examples as they do in a checkout."""
     of_shim = (f"lib/shim/{name}" for name in sorted(os.listdir(f"{TOP}/lib/shim")))
     return {name: read(f"{TOP}/{name}") for name in ("include/seccomp_step.h", "lib/seccomp_step.c", *of_shim)}
 
 
-def files_of(module):
+def files_of(module: str) -> List[str]:
     """The files of a module of the tools, which is a file or a folder."""
     if os.path.isfile(f"{TOP}/tools/{module}"):
         return [module]
@@ -102,7 +105,7 @@ def files_of(module):
     return [f"{module}/{name}" for name in names if os.path.isfile(f"{TOP}/tools/{module}/{name}") and name not in OF_TESTS]
 
 
-def tools(python):
+def tools(python: str) -> Dict[str, File]:
     """The command's files: those of the tools in the table, with their modules."""
     entries = [it for it in table.read()["words"] if it["kind"] == "tool"]
     found = {"broker": read(f"{TOP}/broker")}
@@ -114,7 +117,7 @@ def tools(python):
             for name, entry in found.items()}
 
 
-def documents():
+def documents() -> Dict[str, File]:
     """README and docs/ without the pages for developers; of a link to a file that isn't among them only the label is left."""
     found = {"README.md": read(f"{TOP}/README.md"), **below(files_below("docs"), "docs")}
     found = {name: entry for name, entry in found.items() if not name.startswith("docs/inside/")}
@@ -122,7 +125,7 @@ def documents():
     return {name: text(linked_among(there, name, entry.data.decode())) if name.endswith(".md") else entry for name, entry in found.items()}
 
 
-def linked_among(there, name, page):
+def linked_among(there: Set[str], name: str, page: str) -> str:
     """A page of that name without its links to files that aren't there."""
     return LINK.sub(lambda link: link[0] if os.path.normpath(os.path.join(os.path.dirname(name), link[2])) in there else link[1], page)
 
@@ -154,7 +157,7 @@ def development(made, libdir, prefix):
     return found
 
 
-def tarball(made):
+def tarball(made: making.Made) -> Dict[str, Any]:
     """One folder that runs from wherever it is unpacked."""
     found = {**command(made), **below(documents(), "share/doc/seccomp-broker")}
     if made.library:

@@ -1,9 +1,11 @@
 """What is packaged: the version, the program and the library, and what is known of them."""
+from __future__ import annotations
+
 import os
 import re
 import shutil
 import subprocess
-from typing import NamedTuple
+from typing import Dict, NamedTuple, Tuple, Union
 
 from tools.commands.command_line import checkout, place, sources
 from tools.commands.command_line.top import TOP
@@ -29,12 +31,12 @@ class Made(NamedTuple):
     time: int
 
     @property
-    def name(self):
+    def name(self) -> str:
         """The version as the command and the tarball have it."""
         return self.version if self.is_proved else f"{self.version}-unproved"
 
     @property
-    def debian(self):
+    def debian(self) -> str:
         """Debian's form of the version, by which a proved one is newer than a trial build of the same number."""
         return self.version if self.is_proved else f"{self.version}~-unproved"
 
@@ -44,12 +46,12 @@ class Made(NamedTuple):
         return self.version if self.is_proved else f"{self.version}.dev0+unproved"
 
 
-def first_line(path):
+def first_line(path: str) -> str:
     with open(path, encoding="utf-8") as file:
         return file.readline().strip()
 
 
-def program_of_sources():
+def program_of_sources() -> Tuple[str, bool]:
     """The path of the program of the sources as they are now, and whether it is proved."""
     path = place.said_by(f"{TOP}/tools/commands/program")
     if path is None:
@@ -69,14 +71,14 @@ def library():
     return f"{TOP}/dist"
 
 
-def time_of(commit_time):
+def time_of(commit_time: str) -> int:
     stated = os.environ.get("SOURCE_DATE_EPOCH", commit_time or "0")
     if not re.fullmatch(r"\d{1,10}", stated):
         raise NotMade("SOURCE_DATE_EPOCH isn't a number of seconds")
     return int(stated)
 
 
-def collect():
+def collect() -> Made:
     program, is_proved = program_of_sources()
     git = ("git", "-C", TOP)
     commit = place.said_by(*git, "rev-parse", "HEAD") or "unknown"
@@ -130,7 +132,7 @@ KINDS = {
 }
 
 
-def proof_text(made):
+def proof_text(made: Made) -> str:
     lines = gate_lines(made)
     gate = "\n".join(f"    {line}" for line in lines) if lines else "    (none: the gate wasn't run where this package was made)"
     checksum = sources.checksum_of_file
@@ -140,6 +142,6 @@ def proof_text(made):
                         of_library=", and that of the library of the archive libbroker_c.a that it is linked from" if made.library else "")
 
 
-def about(made):
+def about(made: Made) -> Dict[str, Union[bool, str]]:
     """What the installed command knows of the program beside it."""
     return {"version": made.name, "proved": made.is_proved, "toolchain": made.toolchain, "commit": made.commit, "sources": made.sources}

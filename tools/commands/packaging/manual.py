@@ -1,6 +1,9 @@
 """The man pages: seccomp-broker(1) of the table of words, the others of the documents' own sections."""
+from __future__ import annotations
+
 import textwrap
 import time as clock
+from typing import Any, Dict, Iterable, List
 
 from tools.commands.command_line import pages as texts
 from tools.commands.command_line import place, table
@@ -11,25 +14,25 @@ COMMAND = "seccomp-broker"
 EXAMPLES = "/usr/share/seccomp-broker/examples"
 
 
-def document(name):
+def document(name: str) -> str:
     with open(f"{place.HOME}/{name}", encoding="utf-8") as file:
         return file.read()
 
 
-def head(name, number, summary, version, time):
+def head(name: str, number: int, summary: str, version: str, time: int) -> List[str]:
     date = clock.strftime("%Y-%m-%d", clock.gmtime(time))
     return [f".TH {escaped(name.upper(), True)} {number} {date} \"seccomp-broker {version}\"", ".SH NAME", *textwrap.wrap(f"{escaped(name, True)} \\- {escaped(summary)}", roff.WIDTH)]
 
 
-def filled(text):
+def filled(text: str) -> str:
     return texts.filled(text, COMMAND, EXAMPLES)
 
 
-def bold(text):
+def bold(text: str) -> str:
     return "\\fB" + escaped(filled(text), True) + "\\fR"
 
 
-def listed(rows):
+def listed(rows: Iterable[Any]) -> List[str]:
     """Rows of two columns as a list."""
     found = []
     for name, text in rows:
@@ -37,7 +40,7 @@ def listed(rows):
     return found
 
 
-def word(known, entry):
+def word(known: Dict[str, Any], entry: Dict[str, Any]) -> List[str]:
     """What the page of the command says of one word."""
     found = [f".SS {escaped(entry['word'], True)}"]
     for at, form in enumerate(entry["forms"]):
@@ -52,14 +55,14 @@ def word(known, entry):
     return found
 
 
-def see_also(known, name, number):
+def see_also(known: Dict[str, Any], name: str, number: int) -> List[str]:
     pages = [(COMMAND, 1), *((it["name"], it["section"]) for it in known["manual"])]
     others = sorted((it for it in pages if it != (name, number)), key=lambda it: (it[1], it[0]))
     lines = [f".BR {escaped(it, True)} ({at})," for it, at in others]
     return [".SH SEE ALSO", *lines, ".BR seccomp_unotify (2)"]
 
 
-def of_command(known, version, time):
+def of_command(known: Dict[str, Any], version: str, time: int) -> List[str]:
     found = [*head(COMMAND, 1, known["summary"], version, time), ".SH SYNOPSIS", ".B seccomp\\-broker", ".I COMMAND", "\\&..", ".br", ".B seccomp\\-broker help", ".RI [ COMMAND ]",
              ".br", ".B seccomp\\-broker \\-\\-version", ".SH DESCRIPTION"]
     for at, text in enumerate(known["text"]):
@@ -75,7 +78,7 @@ def of_command(known, version, time):
     return [*found, *see_also(known, COMMAND, 1)]
 
 
-def of_document(known, page, version, time):
+def of_document(known: Dict[str, Any], page: Dict[str, Any], version: str, time: int) -> List[str]:
     found = head(page["name"], page["section"], page["summary"], version, time)
     for heading in page["headings"]:
         # (a heading of another document stands after its name)
@@ -84,7 +87,7 @@ def of_document(known, page, version, time):
     return [*found, *see_also(known, page["name"], page["section"])]
 
 
-def pages(version, time, of="command"):
+def pages(version: str, time: int, of: str = "command") -> Dict[str, str]:
     """The pages that stand with the command, or with the C library, by the names of their files."""
     known = table.read()
     found = {f"{COMMAND}.1": of_command(known, version, time)} if of == "command" else {}

@@ -1,6 +1,9 @@
 """Makes man(7) of the Markdown that the documents are written in: headings, paragraphs, lists, tables and blocks of code."""
+from __future__ import annotations
+
 import re
 import textwrap
+from typing import Iterator, List, Tuple
 
 INLINE = re.compile(r"(`+)(.+?)\1|\*\*(.+?)\*\*|!?\[((?:[^\[\]]|\[[^\]]*\])*)\]\([^)]*\)", re.S)
 END_OF_SENTENCE = re.compile(r"(?<=[^.][.!?:;]) +|(?<=[.!?][)\"]) +")
@@ -8,17 +11,17 @@ SPECIAL = {"\\": "\\e", "-": "\\-", "'": "\\(aq", "`": "\\(ga", "^": "\\(ha", "~
 WIDTH = 76
 
 
-def escaped(text, is_code=False):
+def escaped(text: str, is_code: bool = False) -> str:
     special = SPECIAL if is_code else {name: SPECIAL[name] for name in ("\\", "`", "^", "~")}
     return "".join(special.get(letter, letter) for letter in text)
 
 
-def plain(text):
+def plain(text: str) -> str:
     """A text without marks, as headings have it."""
     return INLINE.sub(lambda found: found[2] or found[3] or plain(found[4] or ""), text)
 
 
-def inline(text):
+def inline(text: str) -> str:
     """A text with its marks as fonts."""
     parts, at = [], 0
     for found in INLINE.finditer(text):
@@ -33,12 +36,12 @@ def inline(text):
     return "".join([*parts, escaped(text[at:])])
 
 
-def line(text):
+def line(text: str) -> str:
     """A line of text that isn't taken for a request."""
     return f"\\&{text}" if text[:1] in (".", "'") else text
 
 
-def sentences(text):
+def sentences(text: str) -> List[str]:
     """The lines of a paragraph: each sentence begins one."""
     found = []
     for sentence in END_OF_SENTENCE.split(" ".join(inline(text).split(" "))):
@@ -47,21 +50,21 @@ def sentences(text):
     return [line(it) for it in found]
 
 
-def code(lines):
+def code(lines: List[str]) -> List[str]:
     return [".IP", ".EX", *(line(escaped(it.rstrip(), True)) or "\\&" for it in lines), ".EE"]
 
 
-def cells(row):
+def cells(row: str) -> List[str]:
     return [it.strip().replace("\\|", "|") for it in re.split(r"(?<!\\)\|", row.strip())[1:-1]]
 
 
-def told(head, row):
+def told(head: List[str], row: List[str]) -> List[str]:
     """What a row says of its first cell: of more than two cells each with the head of its column. Nothing is said of empty ones."""
     texts = [text if len(row) == 2 else f"{plain(name)}: {text}" for name, text in zip(head[1:], row[1:]) if text]
     return [it for at, text in enumerate(texts) for it in [".br"] * (at > 0) + sentences(text)]
 
 
-def item(tag, lines):
+def item(tag: str, lines: List[str]) -> List[str]:
     """An item of a list. A tag is one line of the source, so a longer one is a paragraph."""
     if not lines:
         return [".PP", *sentences(tag)]
@@ -83,7 +86,7 @@ def table(rows):
     return found
 
 
-def blocks(lines):
+def blocks(lines: List[str]) -> Iterator[Tuple[str, List[str]]]:
     """The blocks of a document's part: their kind and their lines."""
     at = 0
     while at < len(lines):
@@ -133,7 +136,7 @@ def man(lines, top):
     return [it for at, it in enumerate(found) if it != ".PP" or at and not found[at - 1].startswith((".SH", ".SS"))]
 
 
-def section(document, heading):
+def section(document: str, heading: str) -> List[str]:
     """The lines of a document from a heading of the second level to the next one, without comments."""
     lines = [line for line in document.split("\n") if not line.startswith("<!-- ")]
     begin = lines.index(f"## {heading}")

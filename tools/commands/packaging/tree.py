@@ -1,9 +1,11 @@
 """A tree of files in memory, and the archives that are made of it: the same tree and time give the same bytes."""
+from __future__ import annotations
+
 import gzip
 import io
 import os
 import tarfile
-from typing import NamedTuple
+from typing import Any, Dict, List, NamedTuple
 
 
 class File(NamedTuple):
@@ -15,17 +17,17 @@ class Link(NamedTuple):
     target: str
 
 
-def read(path):
+def read(path: str) -> File:
     """A file of the disk; one that may be run stays so."""
     with open(path, "rb") as file:
         return File(file.read(), 0o755 if os.access(path, os.X_OK) else 0o644)
 
 
-def text(content, mode=0o644):
+def text(content: str, mode: int = 0o644) -> File:
     return File(content.encode(), mode)
 
 
-def folders_of(tree):
+def folders_of(tree: Dict[str, Any]) -> List[str]:
     """All folders that the tree's files stand in, from the top down."""
     found = set()
     for name in tree:
@@ -35,11 +37,11 @@ def folders_of(tree):
     return sorted(found)
 
 
-def below(tree, folder):
+def below(tree: Dict[str, Any], folder: str) -> Dict[str, Any]:
     return {f"{folder}/{name}": entry for name, entry in tree.items()}
 
 
-def write(tree, folder, time):
+def write(tree: Dict[str, Any], folder: str, time: int) -> None:
     """Writes the tree to the disk."""
     os.makedirs(folder, exist_ok=True)
     for name in folders_of(tree):
@@ -58,14 +60,14 @@ def write(tree, folder, time):
         os.utime(f"{folder}/{name}", (time, time))
 
 
-def member(name, time, kind, mode):
+def member(name: str, time: int, kind: bytes, mode: int) -> tarfile.TarInfo:
     found = tarfile.TarInfo(name)
     found.mtime, found.type, found.mode = time, kind, mode
     found.uname = found.gname = "root"
     return found
 
 
-def zipped_tar(tree, time):
+def zipped_tar(tree: Dict[str, Any], time: int) -> bytes:
     """The tree as the bytes of a .tar.gz."""
     whole = io.BytesIO()
     with tarfile.open(fileobj=whole, mode="w", format=tarfile.USTAR_FORMAT) as archive:
@@ -84,7 +86,7 @@ def zipped_tar(tree, time):
     return zipped(whole.getvalue())
 
 
-def zipped(data):
+def zipped(data: bytes) -> bytes:
     """The bytes as gzip -9n gives them: without a name and a time."""
     whole = io.BytesIO()
     with gzip.GzipFile(filename="", mode="wb", compresslevel=9, fileobj=whole, mtime=0) as file:

@@ -1,4 +1,6 @@
 """A headless Chromium that is driven by Debian's python3-selenium."""
+from __future__ import annotations
+
 import base64
 import os
 import shutil
@@ -11,6 +13,7 @@ from selenium.webdriver.common.action_chains import ActionChains
 from selenium.webdriver.common.by import By
 from selenium.webdriver.common.keys import Keys
 from selenium.webdriver.support.ui import WebDriverWait
+from typing import Any
 
 PATIENCE = 30
 # what overlaps, is cut, or stands beside its place; rows that are small show as many words as have room
@@ -60,7 +63,7 @@ class Browser:
         self.driver.execute_cdp_cmd("Performance.enable", {"timeDomain": "threadTicks"})
         self.folder = folder
 
-    def end(self):
+    def end(self) -> None:
         self.driver.quit()
 
     def size(self, width, height, dark=False):
@@ -77,7 +80,7 @@ class Browser:
     def script(self, text, *values):
         return self.driver.execute_script(text, *values)
 
-    def settled(self):
+    def settled(self) -> None:
         """Waits until what was asked for is drawn."""
         self.driver.execute_async_script("const done = arguments[arguments.length - 1]; requestAnimationFrame(() => requestAnimationFrame(() => setTimeout(done, 30)));")
 
@@ -89,7 +92,7 @@ class Browser:
         except TimeoutException:
             return False
 
-    def keys(self, *keys):
+    def keys(self, *keys: Any) -> None:
         ActionChains(self.driver).send_keys(*keys).perform()
         self.settled()
 

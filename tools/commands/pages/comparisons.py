@@ -1,4 +1,8 @@
 """How the policy that stands in the page differs from another one, and what is likely a mistake in a policy or a script: what the program says of them, for a page."""
+from __future__ import annotations
+
+from typing import TYPE_CHECKING, Any, Dict
+
 from tools.commands.json_documents.documents import WHOLE
 from tools.commands.json_documents.policies import ANSWER, CALL, comparison_of, findings_of
 from tools.commands.messages import likely, policies, scripts
@@ -6,6 +10,9 @@ from tools.commands.messages.findings import Text
 from tools.commands.messages.refusals import SCRIPT
 from tools.commands.pages.reports import NotAReport
 from tools.commands.pages.runs import told_of
+
+if TYPE_CHECKING:
+    from tools.commands.pages.runs import Program
 
 COMPARE, LINT, LINT_SCRIPT = "compare", "lint", "lint-script"
 OF_POLICIES = (COMPARE, LINT)
@@ -26,11 +33,11 @@ CURES = {
 }
 
 
-def side(told):
+def side(told: Dict[str, Any]) -> Dict[str, str]:
     return {"rule": told["rule"], "answer": ANSWER.write(told["answer"]).replace(",", ", ")}
 
 
-def comparison(output):
+def comparison(output: bytes) -> Dict[str, Any]:
     """What a page shows of a comparison."""
     found = comparison_of(output)
     changes = [{"way": it["way"], "call": CALL.write(it["call"]), "old": side(it["old"]), "new": side(it["new"])} for it in found["changes"]]
@@ -38,19 +45,19 @@ def comparison(output):
     return {**found, "changes": changes, "counted": counted}
 
 
-def words_of(found):
+def words_of(found: Dict[str, Any]) -> str:
     by = f" (by {', '.join(found['by'])})" if found["by"] else ""
     return f"{found['finding']}: {found['says']}{by}{': ' + CALL.write(found['call']) if found['call'] else ''}"
 
 
-def notes(output, policy):
+def notes(output: bytes, policy: bytes) -> Any:
     """What a page notes of a policy: of each finding its line, its column, its words, and the cure."""
     near = {it.line: it.cure for it in policies.foreign_keys(policy)}
     return {"findings": [{"line": it["line"], "column": it["column"], "words": words_of(it), "cure": CURES.get(it["finding"]) or near.get(it["line"], "")}
                          for it in findings_of(output)["findings"]]}
 
 
-def of_script(program, texts):
+def of_script(program: Program, texts: Dict[str, bytes]) -> Dict[str, Any]:
     """What a page notes of a script: why the program refuses it, or else what is likely a mistake in a play of it."""
     ended = program.run("audit-check", {"policy": b"{}", **texts, "report": b""}, [])
     told = SCRIPT.fullmatch(ended.line)
@@ -61,7 +68,7 @@ def of_script(program, texts):
     return {**told_of(program, ended), "line": "", "findings": [{"line": it.line, "column": it.column, "words": f"{it.name}: {it.words}", "cure": it.cure} for it in found if it and it.line]}
 
 
-def of_policies(program, form, texts):
+def of_policies(program: Any, form: str, texts: Any) -> Any:
     """What the program says of two policies, or of one."""
     ended = program.run(form, texts, [])
     told = told_of(program, ended)

@@ -1,4 +1,8 @@
 """What a session has read of its call's arguments, as texts: up to the zero that ends each, and not what was left behind that by an earlier use of the memory."""
+from __future__ import annotations
+
+from typing import Dict, Optional
+
 from tools.commands.pages.words import LONGEST_TOLD, address, bytes_text, is_error, short_text, unquoted, was_read
 
 # the label of an argument that is a value, whose zeros are part of it, and that of its size
@@ -15,7 +19,7 @@ class Copied:
         # each read as it is shown, and what it gave: an address, a length and bytes, the zeros at their end left out
         self.told, self.reads = [], []
 
-    def take(self, place, at, length, data):
+    def take(self, place: int, at: int, length: int, data: str) -> str:
         """Takes a read; gives the words of its step."""
         if is_error(data) or data == "-":
             self.told.append([place, address(at), length, data if is_error(data) else '""'])
@@ -27,25 +31,25 @@ class Copied:
         self.told.append([place, address(at), length, bytes_text(text)])
         return f"reads {short_text(text[:LONGEST_TOLD].hex())}{' and more' if len(text) > LONGEST_TOLD else ''} at {address(at)}{more}"
 
-    def has_read(self, begin, size):
+    def has_read(self, begin: int, size: int) -> bool:
         """Whether some of these bytes of memory were read, up to the zero that ends a text."""
         return any(begin < at + (len(content) if self.is_value(at) else min(len(content), len(content.partition(b"\0")[0]) + 1)) and at < begin + size for at, _, content in self.reads)
 
-    def numbers(self):
+    def numbers(self) -> Dict[str, int]:
         return {label: int(number) for label, number, _ in self.call["arguments"]} if self.call is not None else {}
 
-    def is_value(self, at):
+    def is_value(self, at: int) -> bool:
         numbers = self.numbers()
         return VALUE in numbers and numbers[VALUE] <= at < numbers[VALUE] + numbers[SIZE]
 
-    def byte(self, at):
+    def byte(self, at: int) -> Optional[int]:
         """The newest byte of an address, or None."""
         for begin, length, content in reversed(self.reads):
             if begin <= at < begin + length:
                 return content[at - begin] if at - begin < len(content) else 0
         return None
 
-    def text(self, at):
+    def text(self, at: int) -> Optional[bytes]:
         """The text that was read at an address, or None where its end wasn't."""
         found = bytearray()
         while len(found) < LONGEST_TEXT:
@@ -63,7 +67,7 @@ class Copied:
         text = None if at is None else self.text(at)
         return None if text is None else unquoted(bytes_text(text))
 
-    def name_texts(self):
+    def name_texts(self) -> None:
         """Writes the texts that were read behind their addresses among the call's arguments."""
         for argument in self.call["arguments"] if self.call is not None else ():
             label, number, shown = argument

@@ -1,4 +1,8 @@
 """Which rule decides a call of a report, and what the call misses of each rule before it: the program explains the call by the policy that stands in the page."""
+from __future__ import annotations
+
+from typing import TYPE_CHECKING, Any, Dict, List, Optional
+
 from tools.commands.json_documents.explanations import MISSES, VERDICTS, explanation_of, written
 from tools.commands.real_workloads.script_text import CALLS, PIECE
 from tools.commands.pages.reports import event_of, lines_of, NotAReport
@@ -7,6 +11,10 @@ from tools.references.stepping.explaining import asked_text
 from tools.references.stepping.facts import Fail
 from tools.references.stepping.rules import EFAULT, Copy, Mknod, request_of
 from tools.commands.pages.words import is_error
+
+if TYPE_CHECKING:
+    from tools.commands.pages.reports import Event
+    from tools.commands.pages.runs import Program
 
 EXPLAIN = "explain"
 CALLS_REFUSED = 5
@@ -19,7 +27,7 @@ class NotExplained(Exception):
     """A call can't be explained; the text says why."""
 
 
-def events_of(trail):
+def events_of(trail: bytes) -> Optional[List[Event]]:
     """The events of a trail: the lines of a journal that tell of one call, from where it was entered on."""
     try:
         return [event_of(line, line.partition(" ")[0]) for line in lines_of(trail, LIMITS["trail"])]
@@ -55,14 +63,14 @@ def request_read(events, worker, number, arguments):
     return request_of(number, arguments, copy.texts)
 
 
-def shown(call):
+def shown(call: Dict[str, Any]) -> Dict[str, Any]:
     """What a page shows of an explanation: of each rule before the deciding one what the call misses, and whether that is only that the rule is for other calls."""
     verdict = call["verdict"]
     before = [[it["rule"], written(MISSES, it["misses"]), it["misses"]["kind"] == "call"] for it in call["before"]]
     return {"rule": call["rule"], "verdict": verdict["kind"], "words": written(VERDICTS, verdict).partition(" reason=")[0], "reason": verdict.get("reason"), "before": before}
 
 
-def explained(program, texts):
+def explained(program: Program, texts: Dict[str, bytes]) -> Dict[str, Any]:
     """What the program explains of the call of a trail."""
     try:
         line = call_line(texts["trail"])

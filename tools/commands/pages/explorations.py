@@ -3,12 +3,18 @@
 The list of histories for a bound begins the list for each greater one. So where an exploration is stopped, or its time is over, the greatest bound that has
 ended is the part of it that is known.
 """
+from __future__ import annotations
+
 import re
 import time
+from typing import TYPE_CHECKING, Any, Callable, Dict, Iterator
 
 from tools.commands.command_line.exploring import smaller
 from tools.commands.pages.reports import NotAReport
 from tools.commands.pages.views import exploration_view
+
+if TYPE_CHECKING:
+    from tools.commands.pages.runs import Program, Running
 
 # seconds after which smaller bounds are begun, between two looks at what runs, and between two messages
 BEGIN, LOOK, TURN = 0.4, 0.05, 0.5
@@ -23,7 +29,7 @@ EXPLORE = "explore"
 class Smaller:
     """Explores the bounds below one, one after another, and keeps what the greatest of them came to that has ended."""
 
-    def __init__(self, begin, delays):
+    def __init__(self, begin: Callable[..., Any], delays: str) -> None:
         self.begin, self.delays, self.bounds = begin, delays, smaller(delays)
         self.running, self.bound, self.known = None, None, None
 
@@ -42,7 +48,7 @@ class Smaller:
             self.bound, self.known = bound, known
         return known is not None
 
-    def end(self):
+    def end(self) -> None:
         if self.running is not None:
             self.running.end()
 
@@ -52,7 +58,7 @@ class Smaller:
         return {"bound": self.bound, "histories": view["histories"], "outcomes": len(view["outcomes"])}
 
 
-def known_of(output):
+def known_of(output: bytes) -> Any:
     """What a page shows of an output, and the output; None where that is too much, or nothing that can be read."""
     if len(output) > MOST_BYTES:
         return None
@@ -67,7 +73,7 @@ def cut_off(output, delays):
     return FIRST_LINE.sub(lambda found: found[1] + delays.encode() + found[2] + b"no\n", output, count=1)
 
 
-def explored(program, texts, workers, delays, seconds):
+def explored(program: Program, texts: Dict[str, bytes], workers: int, delays: str, seconds: int) -> Iterator[Dict[str, Any]]:
     """The messages of an exploration: progress, what is known so far each time that there is more of it, and at last how it ended."""
     begun = told = time.monotonic()
     whole, found = program.begun(EXPLORE, texts, (workers, delays)), Smaller(lambda bound: program.begun(EXPLORE, texts, (workers, bound)), delays)
@@ -90,7 +96,7 @@ def explored(program, texts, workers, delays, seconds):
         found.end()
 
 
-def last_message(program, whole, status, texts, took):
+def last_message(program: Program, whole: Running, status: int, texts: Dict[str, bytes], took: float) -> Dict[str, Any]:
     """The message of an exploration that ended by itself."""
     whole.end()
     ended = program.ended(whole, status, texts)

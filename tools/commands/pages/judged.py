@@ -1,7 +1,13 @@
 """What the judge of brokers has found in a history, for its picture: the first event that breaks a clause, and the events that this rests on (docs/YOUR_BROKER.md, Judge a session)."""
+from __future__ import annotations
+
 import re
+from typing import TYPE_CHECKING, Any, Dict, Optional, Tuple
 
 from tools.commands.pages.reports import NotAReport, lines_of
+
+if TYPE_CHECKING:
+    from tools.commands.pages.reports import Report
 
 HEAD = re.compile(r"broken (\d{1,9}) (harm|answer|order) ([a-z-]{1,40})")
 REASON = re.compile(r"  (\d{1,9}) (.*)")
@@ -12,7 +18,7 @@ class NotJudged(NotAReport):
     """A line at which the judge's text isn't one, or is another history's."""
 
 
-def quoted_place(line, report):
+def quoted_place(line: str, report: Report) -> Optional[Tuple[int, str]]:
     """The place of the event whose line begins a line, as the journal has it, and what is said of it; None where none does."""
     found = REASON.fullmatch(line)
     if found is None or int(found[1]) >= len(report.events):
@@ -25,7 +31,7 @@ def quoted_place(line, report):
     return place, line[len(SAID) + len(event) + 2:]
 
 
-def judged_of(text, report):
+def judged_of(text: bytes, report: Report) -> Optional[Dict[str, Any]]:
     """What is drawn of the judge's text on this history, or None where nothing is broken. NotJudged says at which line it is no such text."""
     try:
         lines = lines_of(text, len(text))
@@ -40,7 +46,7 @@ def judged_of(text, report):
     return {"place": int(head[1]), "class": head[2], "clause": head[3], "means": lines[3][len(SAID):], "reasons": [list(reason) for reason in reasons]}
 
 
-def marked(scene, judged):
+def marked(scene: Any, judged: Any) -> Any:
     """The scene with the clause at its event, and with what that rests on."""
     place, call = judged["place"], scene["call"][judged["place"]]
     rests = [[at, "rests", text, None] for at, text in judged["reasons"] if at is not None]

@@ -6,7 +6,7 @@ from __future__ import annotations
 
 import re
 from collections import namedtuple
-from typing import List, Tuple
+from typing import Any, Callable, List, Pattern, Tuple
 
 LIMIT = 33_554_432
 # what is wrong with a line that ends as lines do on Windows, and the cure
@@ -80,7 +80,7 @@ Report = namedtuple("Report", "lines events calls audit summary")
 class NotAReport(Exception):
     """A line, counted from 1, at which the text is no report, and why."""
 
-    def __init__(self, line, why):
+    def __init__(self, line: int, why: str) -> None:
         super().__init__(f"line {line}: {why}")
         self.line, self.why = line, why
 
@@ -135,10 +135,10 @@ def event_of(line, place):
     return Event(actor, word, fields.groups())
 
 
-def fields_of(form, what):
+def fields_of(form: Pattern[Any], what: str) -> Callable[..., Any]:
     """The fields of a line of this form."""
 
-    def read(line, _):
+    def read(line: str, _: int) -> Tuple[str, ...]:
         fields = form.fullmatch(line)
         if fields is None:
             raise ValueError(f"this is no line of {what}")
@@ -152,7 +152,7 @@ def listed_calls(lines: List[str], at: int, events: List[Event]) -> Tuple[List[C
     entered = [place for place, event in enumerate(events) if event.word == "call"]
     read = fields_of(CALL_LINE, "the calls")
 
-    def call(line, number):
+    def call(line: str, number: int) -> Call:
         place, actor, pid, name, outcome = read(line, number)
         if number >= len(entered) or entered[number] != int(place) or events[int(place)].actor != actor or events[int(place)].fields[0] != name:
             raise ValueError("no event of the journal entered this call")
@@ -169,7 +169,7 @@ def listed_audit(lines: List[str], at: int, events: List[Event]) -> Tuple[List[J
     received = [place for place, event in enumerate(events) if event.word == "recv" and event.fields[0] is not None]
     read = fields_of(AUDIT_LINE, "the audit")
 
-    def judged(line, number):
+    def judged(line: str, number: int) -> Judged:
         place, actor, notification, *rest = read(line, number)
         if number >= len(received) or received[number] != int(place) or events[int(place)].actor != actor or events[int(place)].fields[0] != notification:
             raise ValueError("no event of the journal received this notification")

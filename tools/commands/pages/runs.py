@@ -1,10 +1,13 @@
 """Runs the built program on texts, in a folder of its own and within limits."""
+from __future__ import annotations
+
 import os
 import re
 import signal
 import subprocess
 import tempfile
 from collections import namedtuple
+from typing import Any, Dict, List, Optional, Sequence, Union
 
 from tools.commands.messages import policies
 from tools.commands.pages.reports import LIMIT as REPORT_LIMIT
@@ -43,7 +46,7 @@ FORMS = {
 Ended = namedtuple("Ended", "status output line marked")
 
 
-def plain():
+def plain() -> Dict[str, str]:
     """The environment in which ./broker leaves the program's own line of a refusal."""
     return {**os.environ, "SECCOMP_BROKER_PLAIN": "1"}
 
@@ -55,7 +58,7 @@ class Late(Exception):
 class Running:
     """The program with the words of a form, in a folder that has the texts, and in a group of processes that is ended with it. `given` is its standard input."""
 
-    def __init__(self, path, form, texts, words, given=b""):
+    def __init__(self, path: str, form: str, texts: Dict[str, bytes], words: Sequence[Union[int, str]], given: bytes = b"") -> None:
         self.room = tempfile.TemporaryDirectory(prefix="playground-")
         self.output, self.said = tempfile.TemporaryFile(), tempfile.TemporaryFile()
         for name, text in texts.items():
@@ -67,14 +70,14 @@ class Running:
             source.seek(0)
             self.process = subprocess.Popen(["/bin/sh", "-c", LIMITED, "sh", *whole], cwd=self.room.name, env=plain(), stdin=source, stdout=self.output, stderr=self.said, start_new_session=True)
 
-    def status(self, seconds):
+    def status(self, seconds: float) -> Optional[int]:
         """How it ended; None where it hasn't after so many seconds."""
         try:
             return self.process.wait(seconds)
         except subprocess.TimeoutExpired:
             return None
 
-    def end(self):
+    def end(self) -> None:
         """Ends it, and all that it started, also where it has ended itself."""
         try:
             os.killpg(self.process.pid, signal.SIGKILL)
@@ -83,11 +86,11 @@ class Running:
         self.process.wait()
         self.room.cleanup()
 
-    def printed(self):
+    def printed(self) -> bytes:
         self.output.seek(0)
         return self.output.read()
 
-    def lines(self):
+    def lines(self) -> List[str]:
         """What it said on standard error."""
         self.said.seek(0)
         return self.said.read(65536).decode("utf-8", "replace").splitlines()
@@ -96,7 +99,7 @@ class Running:
 class Program:
     """The program that ./broker runs, or the one at a path."""
 
-    def __init__(self, path, broker):
+    def __init__(self, path: str, broker: str) -> None:
         self.path = path
         # (a word without its operands, which the program answers by its usage line)
         said = subprocess.run([path, "play"], env=plain(), stdin=subprocess.DEVNULL, capture_output=True).stderr.decode("utf-8", "replace").splitlines()
@@ -108,20 +111,20 @@ class Program:
         self.named = path != broker
         self.learn(said)
 
-    def learn(self, said):
+    def learn(self, said: List[str]) -> None:
         """Notes which program it was that said these lines."""
         of_build = next((line for line in said if line.startswith(NOT_PROVED)), None)
         self.is_slow = of_build is not None and NOT_OPTIMISED in of_build
         self.kind = f"the program at {self.path}" if self.named else "a trial build, which isn't proved" if of_build else "the proved program"
 
-    def about(self):
+    def about(self) -> Dict[str, Union[bool, str]]:
         """What a page tells of the program."""
         return {"program": self.kind, "slow": self.is_slow}
 
-    def begun(self, form, texts, words, given=b""):
+    def begun(self, form: str, texts: Dict[str, bytes], words: Sequence[Union[int, str]], given: bytes = b"") -> Running:
         return Running(self.path, form, texts, words, given)
 
-    def run(self, form, texts, words, given=b""):
+    def run(self, form: str, texts: Any, words: Any, given: bytes = b"") -> Any:
         """What the program does with the words of a form, whose texts and words are looked at already."""
         running = self.begun(form, texts, words, given)
         try:
@@ -132,7 +135,7 @@ class Program:
             running.end()
         return self.ended(running, status, texts)
 
-    def ended(self, running, status, texts):
+    def ended(self, running: Running, status: int, texts: Dict[str, bytes]) -> Ended:
         """What came of a run that has ended."""
         lines = running.lines()
         line = "\n".join(line for line in lines if not line.startswith(OF_THE_BROKER))
@@ -140,7 +143,7 @@ class Program:
         return Ended(status, running.printed(), line, marked_by(line, texts))
 
 
-def told_of(program, ended):
+def told_of(program: Program, ended: Ended) -> Dict[str, Any]:
     """What a page is told of a run that has ended, beside what was printed."""
     line = ended.line or (f"The program ended with status {ended.status}." if ended.status else "")
     return {"status": ended.status, "line": line, "marked": ended.marked, **program.about()}

@@ -3,11 +3,17 @@
 A scene says no more than the report's lines do. Which events are of one call is told by their actors and ids: a call is the newest that
 its task entered, a session is what its worker does from a receive to its end. Verdicts, outcomes and answers are those of the report.
 """
+from __future__ import annotations
+
 import heapq
 import re
+from typing import TYPE_CHECKING, Any, Dict, List, Optional
 
 from tools.commands.pages.copies import Copied
 from tools.commands.pages.words import arguments, is_error, words_of
+
+if TYPE_CHECKING:
+    from tools.commands.pages.reports import Event, Report
 
 # so many tasks have a column each; where there are more, a task takes the column of one that has ended
 OWN_COLUMNS = 12
@@ -24,7 +30,7 @@ class Lane:
         # the pokes of all tasks that share the lane's memory
         self.pokes = []
 
-    def told(self):
+    def told(self) -> Any:
         return [self.name, self.kind, self.first, self.last, self.ended, self.reaped, self.pid, self.column]
 
 
@@ -45,7 +51,7 @@ class Scene:
             self.take(place, event)
         self.complete(len(report.events) - 1)
 
-    def lane(self, name, place):
+    def lane(self, name: str, place: int) -> Lane:
         """The lane with this name, which has an event at this place."""
         if name not in self.lanes:
             kind = {"t": "task", "w": "worker"}.get(name[0], "listener")
@@ -54,7 +60,7 @@ class Scene:
         lane.last = max(lane.last, place)
         return lane
 
-    def take(self, place, event):
+    def take(self, place: int, event: Event) -> None:
         name = f"t{event.fields[0]}" if event.actor == "-" else event.actor
         lane = self.lane(name, place)
         self.lane_of.append(lane)
@@ -62,17 +68,17 @@ class Scene:
         call = step(place, lane, *event.fields) if step else self.session_call(lane)
         self.call_of.append(-1 if call is None else call["number"])
 
-    def session_call(self, lane):
+    def session_call(self, lane: Lane) -> Optional[Dict[str, Any]]:
         session = self.open_sessions.get(lane.name)
         return session and session["call"]
 
-    def note(self, kind, place):
+    def note(self, kind: str, place: int) -> None:
         self.notes.append([kind, place])
 
-    def tag(self, place, kind, text, rule=None):
+    def tag(self, place: int, kind: str, text: str, rule: Optional[str] = None) -> None:
         self.tags.append([place, kind, text, rule])
 
-    def arrow(self, kind, place, source, target, lost=False):
+    def arrow(self, kind: str, place: int, source: Any, target: Any, lost: bool = False) -> None:
         if target is not None and source is not target:
             self.arrows.append([kind, place, source, target, int(lost)])
 
@@ -91,7 +97,7 @@ class Scene:
             self.holders[pid] = child
             self.arrow("spawn", place, lane, child)
 
-    def call(self, place, lane, name, numbers, verdict):
+    def call(self, place: int, lane: Any, name: str, numbers: str, verdict: str) -> Any:
         listed = self.outcomes[place]
         call = {"number": len(self.calls), "place": place, "lane": lane, "name": name, "pid": listed.pid, "outcome": listed.outcome, "verdict": verdict,
                 "end": None, "arguments": arguments(name, numbers.split()), "sessions": []}
@@ -108,41 +114,41 @@ class Scene:
         self.tag(place, "bad" if is_error(listed.outcome) or listed.outcome == "ended" else "plain", OUTCOMES.get(listed.outcome) or f"{'failed with' if is_error(listed.outcome) else 'returned'} {listed.outcome}")
         return call
 
-    def over(self, lane, place):
+    def over(self, lane: Lane, place: int) -> Optional[Dict[str, Any]]:
         """The lane's call is over, if it is in one."""
         call = self.current.pop(lane.name, None)
         if call is not None:
             call["end"] = place
         return call
 
-    def native(self, place, lane, _):
+    def native(self, place: int, lane: Any, _: str) -> Any:
         return self.over(lane, place)
 
-    def install(self, place, lane, _):
+    def install(self, place: int, lane: Any, _: str) -> Any:
         return self.current.get(lane.name)
 
-    def resume(self, place, lane, back):
+    def resume(self, place: int, lane: Any, back: str) -> Any:
         return self.current.get(lane.name) if back == "continue" else self.over(lane, place)
 
-    def kill(self, place, lane, pid, number, result):
+    def kill(self, place: int, lane: Lane, pid: str, number: str, result: str) -> None:
         receiver = self.holders.get(pid)
         self.arrow("kill", place, lane, receiver, result != "ok")
         if receiver is not None:
             self.signals[receiver.name, number] = place
 
-    def deliver(self, place, lane, number, effect):
+    def deliver(self, place: int, lane: Any, number: str, effect: str) -> Any:
         if effect == "end":
             lane.ended = place
         call = None if effect == "run" else self.over(lane, place)
         self.cause(self.signals.pop((lane.name, number), None), call)
         return call
 
-    def cause(self, place, call):
+    def cause(self, place: int, call: Optional[Dict[str, Any]]) -> None:
         """Notes that a step has brought something to a call of another task."""
         if place is not None and call is not None and [place, call["number"]] not in self.causes[-POKES:]:
             self.causes.append([place, call["number"]])
 
-    def wait(self, place, lane, child):
+    def wait(self, place: int, lane: Lane, child: str) -> None:
         if not is_error(child) and f"t{child}" in self.lanes:
             ended = self.lanes[f"t{child}"]
             ended.reaped, ended.last = place, max(ended.last, place)
@@ -152,7 +158,7 @@ class Scene:
         lane.ended = place
         return self.over(lane, place)
 
-    def poke(self, place, lane, at, data):
+    def poke(self, place: int, lane: Lane, at: str, data: str) -> None:
         begin, size = int(at), len(data) // 2
         lane.pokes.append((place, lane, begin, size))
         for session in self.open_sessions.values():
@@ -160,7 +166,7 @@ class Scene:
             if call is not None and call["lane"] is not lane and call["lane"].pokes is lane.pokes and session["copy"].has_read(begin, size):
                 self.note_overwritten(place, session, "was read already")
 
-    def note_overwritten(self, place, session, when):
+    def note_overwritten(self, place: int, session: Dict[str, Any], when: str) -> None:
         """Notes that another task writes over a text of a call that waits."""
         if [OVERWRITTEN, place] not in self.notes[-POKES:]:
             self.note(OVERWRITTEN, place)
@@ -173,7 +179,7 @@ class Scene:
 
     # ---- steps of workers
 
-    def recv(self, place, lane, notification, pid, error):
+    def recv(self, place: int, lane: Any, notification: str, pid: str, error: Any) -> Any:
         if error is not None:
             return None
         self.finish(lane, place)
@@ -187,7 +193,7 @@ class Scene:
             self.arrow("recv", place, call["lane"], lane)
         return call
 
-    def finish(self, lane, place):
+    def finish(self, lane: Lane, place: int) -> Optional[Dict[str, Any]]:
         """The lane's session is over, if there is one."""
         session = self.open_sessions.pop(lane.name, None)
         if session is None:
@@ -198,10 +204,10 @@ class Scene:
             self.brackets.append([lane, session["first"], last, int(session["good"]), session["call"]])
         return session["call"]
 
-    def let_go(self, place, lane):
+    def let_go(self, place: int, lane: Any) -> Any:
         return self.finish(lane, place)
 
-    def opening(self, place, lane, pid, *_):
+    def opening(self, place: int, lane: Any, pid: str, *_: str) -> Any:
         """Tells where the number is another task's than the call's."""
         session, holder = self.open_sessions.get(lane.name), self.holders.get(pid)
         if session is None or session["call"] is None:
@@ -229,7 +235,7 @@ class Scene:
             session["second"], session["good"] = place, result == "ok"
         return session["call"]
 
-    def read(self, place, lane, at, length, data):
+    def read(self, place: int, lane: Any, at: str, length: str, data: str) -> Any:
         session = self.open_sessions.get(lane.name)
         if session is None:
             return None
@@ -247,7 +253,7 @@ class Scene:
                     if lane is call["lane"]:
                         self.note_overwritten(place, session, "is read later")
 
-    def answer(self, kind, place, lane, result):
+    def answer(self, kind: str, place: int, lane: Lane, result: str) -> Optional[Dict[str, Any]]:
         session = self.open_sessions.get(lane.name)
         if result != "ok":
             self.tag(place, "bad", "lost" if result == "ENOENT" else "refused")
@@ -260,7 +266,7 @@ class Scene:
     def send(self, place, lane, _id, _back, result):
         return self.answer("send", place, lane, result)
 
-    def addfd_put(self, place, lane, _id, _source, _target, _nosend, result):
+    def addfd_put(self, place: int, lane: Any, _id: str, _source: str, _target: str, _nosend: Any, result: str) -> Any:
         session = self.open_sessions.get(lane.name)
         path = session and session["copy"].path()
         if path is not None:
@@ -269,7 +275,7 @@ class Scene:
 
     # ---- the whole
 
-    def complete(self, last):
+    def complete(self, last: int) -> None:
         """At the end of the report each session that is left is over."""
         for lane in self.lanes.values():
             self.finish(lane, last)
@@ -279,7 +285,7 @@ class Scene:
         self.set_columns(last)
         self.order = sorted(self.lanes.values(), key=lambda lane: ({"task": 0, "listener": 1, "worker": 2}[lane.kind], lane.column))
 
-    def tag_session(self, session):
+    def tag_session(self, session: Dict[str, Any]) -> None:
         """Writes verdict and rule behind the step that brought them: the last check, and without one the session's end."""
         judged, decided = session["judged"], session["decided"] or session["end"]
         if judged.verdict in ("gone", "fault", "spent", "deny"):
@@ -308,7 +314,7 @@ class Scene:
         for column, lane in enumerate(rest, columns):
             lane.column, lane.first, lane.last = column, 0, last
 
-    def told(self):
+    def told(self) -> Any:
         """The scene as lists and texts, for a page."""
         number = {lane.name: place for place, lane in enumerate(self.order)}
         calls = [[call["place"], number[call["lane"].name], call["name"], call["pid"], call["verdict"], call["outcome"], call["end"], call["arguments"], call["sessions"]]
@@ -335,7 +341,7 @@ class Scene:
         }
 
 
-def is_bad(event):
+def is_bad(event: Event) -> bool:
     """Whether the event's own line says that it failed: its last field is an error, or a task dies."""
     if event.word == "deliver":
         return event.fields[1] == "end"
@@ -343,5 +349,5 @@ def is_bad(event):
     return event.word != "resume" and last is not None and bool(re.fullmatch(r"E[A-Z0-9]+", last)) or event.word == "call" and last == "kill"
 
 
-def scene_of(report):
+def scene_of(report: Report) -> Dict[str, List[Any]]:
     return Scene(report).told()

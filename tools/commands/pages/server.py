@@ -3,12 +3,15 @@
 Each request names this server as its host, and one that asks for a run comes from its own page. What stands in a request is never a
 path: there is a table of the few that are answered.
 """
+from __future__ import annotations
+
 import json
 import socket
 import threading
 import time
 import traceback
 from http.server import BaseHTTPRequestHandler, ThreadingHTTPServer
+from typing import Any, Callable, Dict, List, Optional, Tuple, Union
 
 from tools.commands.pages.comparisons import LINT_SCRIPT, OF_POLICIES, of_policies, of_script
 from tools.commands.pages.decisions import EXPLAIN, explained
@@ -42,12 +45,12 @@ OF_THE_PAGE = {EXPLORE: {"seconds": MOST_SECONDS}}
 
 
 class Refused(Exception):
-    def __init__(self, status, text):
+    def __init__(self, status: int, text: str) -> None:
         super().__init__(text)
         self.status = status
 
 
-def greatest_body(texts):
+def greatest_body(texts: Tuple[str, str]) -> int:
     """So much a body with these texts may have: JSON writes most bytes of a text as one or two."""
     return 2 * sum(LIMITS[name] for name in texts) + 1024
 
@@ -70,7 +73,7 @@ def asked_of(body, form, more):
     return found, {name: asked[name] for name in (*form.numbers, *form.choices, *more)}
 
 
-def bytes_of(name, text):
+def bytes_of(name: str, text: Optional[Union[List[str], int, str]]) -> Optional[bytes]:
     if not isinstance(text, str):
         raise Refused(400, f"{name} is no text")
     try:
@@ -82,7 +85,7 @@ def bytes_of(name, text):
     return data
 
 
-def hang_up(connection):
+def hang_up(connection: socket.socket) -> None:
     try:
         connection.shutdown(socket.SHUT_RDWR)
     except OSError:
@@ -95,7 +98,7 @@ class Handler(BaseHTTPRequestHandler):
     # also what isn't HTTP is answered with a status
     default_request_version = "HTTP/1.0"
 
-    def setup(self):
+    def setup(self) -> None:
         super().setup()
         self.last = None
         self.lasts(LONGEST)
@@ -115,7 +118,7 @@ class Handler(BaseHTTPRequestHandler):
         except OSError:
             pass
 
-    def hang_up(self):
+    def hang_up(self) -> None:
         hang_up(self.connection)
 
     def parse_request(self):
@@ -124,13 +127,13 @@ class Handler(BaseHTTPRequestHandler):
         self.server.waiting.pop(self.request, None)
         return is_read
 
-    def do_GET(self):
+    def do_GET(self) -> None:
         self.answered(self.page)
 
-    def do_POST(self):
+    def do_POST(self) -> None:
         self.answered(self.asked)
 
-    def answered(self, action):
+    def answered(self, action: Callable[..., Any]) -> None:
         """Answers with what the action gives, or tells why it is refused. An action that has answered already gives nothing."""
         try:
             self.look_at_host()
@@ -257,7 +260,7 @@ class Handler(BaseHTTPRequestHandler):
 
     # ---- how
 
-    def head(self, status, headers):
+    def head(self, status: int, headers: Dict[str, str]) -> None:
         self.send_response(status)
         for name, value in {**HEADERS, **headers, "Connection": "close"}.items():
             self.send_header(name, value)
@@ -269,18 +272,18 @@ class Handler(BaseHTTPRequestHandler):
         if self.command != "HEAD":
             self.wfile.write(body)
 
-    def say_why(self, status, text):
+    def say_why(self, status: int, text: str) -> None:
         self.say(status, JSON, json.dumps({"error": text}).encode())
         self.linger()
 
-    def send_error(self, code, message=None, explain=None):
+    def send_error(self, code: Any, message: Optional[str] = None, explain: Optional[str] = None) -> None:
         """What the server's own reading of a request refuses, in the same form."""
         try:
             self.say_why(int(code), message or "this is no request")
         except OSError:
             self.close_connection = True
 
-    def linger(self):
+    def linger(self) -> None:
         """Takes what still comes for a moment, so that the answer isn't lost with the connection."""
         try:
             self.wfile.flush()
@@ -292,7 +295,7 @@ class Handler(BaseHTTPRequestHandler):
         except OSError:
             pass
 
-    def log_message(self, form, *values):
+    def log_message(self, form: str, *values: str) -> None:
         pass
 
 
@@ -317,14 +320,14 @@ class Server(ThreadingHTTPServer):
             "/about": (JSON, json.dumps(about).encode()),
         }
 
-    def process_request(self, request, address):
+    def process_request(self, request: Any, address: Any) -> None:
         if not self.connections.acquire(blocking=False) and not self.has_made_room():
             self.shutdown_request(request)
             return
         self.waiting[request] = None
         super().process_request(request, address)
 
-    def has_made_room(self):
+    def has_made_room(self) -> bool:
         """Hangs up the connection that has waited longest for its request, in favour of a new one; whether there was one."""
         oldest = next(iter(list(self.waiting)), None)
         if oldest is None:
@@ -333,7 +336,7 @@ class Server(ThreadingHTTPServer):
         hang_up(oldest)
         return self.connections.acquire(timeout=LEAVING)
 
-    def process_request_thread(self, request, address):
+    def process_request_thread(self, request: Any, address: Any) -> None:
         try:
             super().process_request_thread(request, address)
         finally:

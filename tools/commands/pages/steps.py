@@ -2,11 +2,19 @@
 
 `play` plays the schedule, so workers do what the program's own do. `step` is then asked for the same steps, and says who is able.
 """
+from __future__ import annotations
+
+from typing import TYPE_CHECKING, Any, Callable, Dict, Iterator, List, Tuple
+
 from tools.commands.container_tree import tokens
 from tools.commands.pages.reports import read
 from tools.commands.pages.runs import told_of
 from tools.commands.pages.scenes import OUTCOMES
 from tools.references.stepping.replay import request_of
+
+if TYPE_CHECKING:
+    from tools.commands.pages.reports import Event, Report
+    from tools.commands.pages.runs import Ended, Program
 
 STEP = "step"
 ABLE, RECEIVE, SKIP = "able", "recv", "skip"
@@ -21,7 +29,7 @@ class NotFollowed(Exception):
     """`step` answers otherwise than `play` has it; the text says where."""
 
 
-def before_the_end(output):
+def before_the_end(output: bytes) -> bytes:
     """The report that was printed without the close of the listener, by which a play ends and a session goes on."""
     lines = output.split(b"\n")
     count = int(lines[0].split()[1])
@@ -29,19 +37,19 @@ def before_the_end(output):
     return b"\n".join([b"journal %d" % (count - 1), *lines[1:count], *lines[count + 1:-2], last, b""])
 
 
-def is_followed(event):
+def is_followed(event: Event) -> bool:
     """Whether an event is one of the kernel, for which there is a request. A skip is none, nor is an effect of which the worker's rule was spent."""
     return event.word != SKIP and not (event.word in ("act", "plant") and event.fields[-1] == "EDQUOT")
 
 
-def requests_of(report):
+def requests_of(report: Report) -> Iterator[str]:
     """The requests that lead through the events of a report. (The first event is the container's start.)"""
     for line, event in list(zip(report.lines[1:], report.events))[1:]:
         if is_followed(event):
             yield request_of(event.actor, tokens(line.split(" ", 2)[2]), PLANTED)
 
 
-def last_events(report):
+def last_events(report: Report) -> Dict[str, Event]:
     """The last event of each worker that has a notification in hand."""
     last = {}
     for event in report.events:
@@ -50,7 +58,7 @@ def last_events(report):
     return {actor: event for actor, event in last.items() if event.word != "let-go" and not (event.word == RECEIVE and event.fields[0] is None)}
 
 
-def answers_to(program, texts, requests):
+def answers_to(program: Program, texts: Dict[str, bytes], requests: List[str]) -> Tuple[Ended, List[str]]:
     """How `step` ended, and its answer to each request."""
     ended = program.run(STEP, texts, [], b"".join(it.encode("latin-1") + b"\n" for it in requests))
     return ended, ended.output.decode("latin-1").splitlines()
@@ -66,7 +74,7 @@ def able_of(report, answer, results):
     return tasks + sorted(workers + [idle] * (RECEIVE in names and idle is not None), key=lambda it: int(it[1:]))
 
 
-def going_on(told):
+def going_on(told: Dict[str, Any]) -> Dict[str, Any]:
     """What a page shows of a report, which isn't over: a call without an outcome, and a session without a decision, may still have one."""
     if told["status"] == 0:
         scene = told["view"]["scene"]
@@ -76,7 +84,7 @@ def going_on(told):
     return told
 
 
-def stepped(program, texts, draw):
+def stepped(program: Program, texts: Dict[str, bytes], draw: Callable[..., Any]) -> Dict[str, Any]:
     """What a script's schedule comes to, and who is able to step behind it. `draw` makes what a page shows of a report."""
     ended = program.run("play", texts, [])
     if ended.status:

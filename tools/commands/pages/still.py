@@ -4,7 +4,7 @@ from __future__ import annotations
 import html
 import os
 import re
-from typing import Any, Dict, Tuple
+from typing import Any, Dict, Optional, Tuple
 
 from tools.commands.pages.reports import NotAReport
 
@@ -80,7 +80,7 @@ class Still:
         return f'<svg xmlns="http://www.w3.org/2000/svg" {size} viewBox="0 0 {self.width:.0f} {self.height}">\n<style>{STYLE}</style>\n' \
             f'<rect width="100%" height="100%" fill="#fff"/>\n' + "".join(f"{part}\n" for part in parts if part) + "</svg>\n"
 
-    def band(self, place):
+    def band(self, place: int) -> Optional[str]:
         """The ground of a row that is broken, or that this rests on."""
         kinds = {kind for kind, _ in self.tags.get(place, ())}
         colour = "#fdecea" if "broken" in kinds else "#fff4e0" if "rests" in kinds else None
@@ -95,7 +95,7 @@ class Still:
         held = f'<path d="M{x:.0f} {solid:.0f}V{end:.0f}" stroke="{colour}" stroke-dasharray="1 4"/>' if solid < end else ""
         return f'{title}<path d="M{x:.0f} {begin:.0f}V{solid:.0f}" stroke="{colour}" opacity=".55"/>{held}'
 
-    def is_first(self, number):
+    def is_first(self, number: int) -> bool:
         """Whether a lane is the first of its column."""
         return all(lane[-1] != self.scene["lanes"][number][-1] for lane in self.scene["lanes"][:number])
 

@@ -84,7 +84,7 @@ def pod_view(data):
 # ---- an exploration
 
 
-def exploration_view(data):
+def exploration_view(data: bytes) -> Dict[str, Any]:
     """The outcomes of an exploration: the calls of each as lines, and the turns of its schedule."""
     found = exploration_of(data)
     # (older programs don't say which bounds they explored)
@@ -93,13 +93,13 @@ def exploration_view(data):
     return {"kind": "exploration", **bounds, **counts, "outcomes": [outcome_view(it) for it in found["outcomes"]]}
 
 
-def outcome_view(outcome):
+def outcome_view(outcome: Dict[str, Any]) -> Dict[str, Any]:
     turns = outcome["schedule"]
     return {"number": outcome["number"], "histories": outcome["histories"], "calls": [call_view(it) for it in outcome["calls"]],
             "schedule": None if turns is None else [[ACTOR.write(it["actor"]), it["steps"]] for it in turns]}
 
 
-def call_view(call):
+def call_view(call: Dict[str, Any]) -> Dict[str, Any]:
     """A call: its task, its number, its name, what the filters said, its outcome, its audit, and what was done for it, in words."""
     audit = call["audit"] or {"rule": None, "verdict": "-", "reply": "-"}
     outcome = result_word(call["outcome"])

@@ -2,7 +2,7 @@
 from __future__ import annotations
 
 import re
-from typing import Union
+from typing import Any, Union
 
 from tools.commands.pages.reports import TEXT
 
@@ -30,7 +30,7 @@ def address(number: Union[int, str]) -> str:
     return hex(int(number))
 
 
-def lower_half(number):
+def lower_half(number: str) -> int:
     """The number's lower 32 bits, with their sign."""
     return (int(number) + 2**31) % 2**32 - 2**31
 
@@ -81,13 +81,13 @@ def is_error(answer: str) -> bool:
     return answer.startswith("E")
 
 
-def spawned(name, pid, kind, error):
+def spawned(name: str, pid: str, kind: str, error: Any) -> str:
     if error is not None:
         return f"can't start task {name}: {error}"
     return {"new": f"starts, as process {pid}", "copy": f"starts process {pid}, task {name}", "share": f"starts thread {pid}, task {name}"}[kind]
 
 
-def handled(number, mode):
+def handled(number: str, mode: str) -> str:
     what = {"default": "ends the task, as by default", "restart": "gets a handler that restarts calls", "plain": "gets a handler that interrupts calls"}[mode]
     return f"{signal(number)} {what}"
 
@@ -99,11 +99,11 @@ def called(name: str, numbers: str, verdict: str) -> str:
     return f"calls {name if known is not OTHER_ARGUMENTS else 'number ' + name}({', '.join(shown for _, _, shown in known)}): {said}"
 
 
-def ran(answer):
+def ran(answer: str) -> str:
     return f"the call runs without the broker: {'fails with ' if is_error(answer) else 'returns '}{answer}"
 
 
-def installed(answer):
+def installed(answer: str) -> str:
     return f"gets no descriptor: {answer}" if is_error(answer) else f"gets descriptor {answer}"
 
 
@@ -113,7 +113,7 @@ def resumed(back: str) -> str:
     return f"the call fails with {back}" if is_error(back) else f"the call returns {back}"
 
 
-def delivered(number, effect):
+def delivered(number: str, effect: str) -> str:
     return {
         "end": f"dies of {signal(number)}",
         "run": f"the handler of {signal(number)} runs",
@@ -122,7 +122,7 @@ def delivered(number, effect):
     }[effect]
 
 
-def received(notification, pid, error):
+def received(notification: str, pid: str, error: Any) -> str:
     return f"finds nothing to receive: {error}" if error else f"receives notification {notification} of process {pid}"
 
 
@@ -177,12 +177,12 @@ def acted(request: str, result: str) -> str:
     return f"{done} {rest}" if result == "ok" else f"tries to {verb} {rest}: {result}"
 
 
-def put(_, source, target, nosend, result):
+def put(_: str, source: str, target: str, nosend: Any, result: str) -> str:
     place, sending = "" if target == "-" else f", at {target}", ", without an answer" if nosend else ""
     return f"puts its descriptor {source} into the caller{place}{sending}{failed(result)}"
 
 
-def taken(answer):
+def taken(answer: str) -> str:
     return f"learns that the descriptor wasn't put in: {answer}" if is_error(answer) else f"learns that the descriptor is {answer} there"
 
 

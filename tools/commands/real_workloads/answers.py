@@ -4,6 +4,7 @@ from __future__ import annotations
 import errno
 import re
 from dataclasses import dataclass, field
+from typing import Any, Dict, List, Optional, Tuple
 
 from tools.commands.real_workloads import finds
 from tools.commands.real_workloads.script_text import tokens
@@ -72,12 +73,12 @@ class Script:
                 self.calls[self.last].append((words[1], self.made(traced, texts, words)))
                 traced, texts = None, {}
 
-    def made(self, traced, texts, words):
+    def made(self, traced: Any, texts: Any, words: Any) -> Any:
         if traced:
             traced.texts, traced.numbers, traced.program = texts, [int(it, 0) for it in words[2:]], self.last
         return traced
 
-    def tasks(self):
+    def tasks(self) -> Any:
         """The programs by the tasks that run them."""
         found, waiting = {}, [("0", self.last)] if self.last else []
         while waiting:
@@ -103,7 +104,7 @@ class Report:
                 self.of_task.setdefault(found[2], []).append((found[4], found[5], verdict, judgement, open_there.get(int(found[1]))))
 
 
-def open_at_calls(journal):
+def open_at_calls(journal: List[str]) -> Dict[int, bool]:
     """Whether the first argument of each call is an open descriptor of its task, by the places of the calls."""
     tables, calls, found = {"0": set(CONSOLES)}, {}, {}
     for place_of_step, task, what, rest in (it.groups() for it in map(STEP.match, journal) if it):
@@ -121,7 +122,7 @@ def open_at_calls(journal):
     return found
 
 
-def part(lines, name):
+def part(lines: List[str], name: str) -> List[str]:
     """The lines of a part of a report. Raises ValueError where it has none."""
     at = next((at for at, line in enumerate(lines) if re.fullmatch(rf"{name} \d+", line)), None)
     if at is None:
@@ -129,7 +130,7 @@ def part(lines, name):
     return lines[at + 1:at + 1 + int(lines[at].split()[1])]
 
 
-def paired(script, report):
+def paired(script: Script, report: Report) -> List[Made]:
     """The calls of the script that stand for traced ones, with what the play made of them, in the order of the trace."""
     found = []
     for task, program in script.tasks().items():
@@ -148,7 +149,7 @@ def paired(script, report):
     return sorted(found, key=lambda it: it.line)
 
 
-def take(made, outcome, verdict, judged, is_open):
+def take(made: Made, outcome: str, verdict: str, judged: Optional[Tuple[str, str, str, str, str, str]], is_open: bool) -> None:
     made.play, made.is_open = outcome, is_open
     if judged:
         _, _, rule, made.verdict, made.sent, made.reply = judged
@@ -157,7 +158,7 @@ def take(made, outcome, verdict, judged, is_open):
         made.by = made.verdict = "notified" if verdict.startswith("notify") else verdict
 
 
-def number_of(answer):
+def number_of(answer: str) -> Optional[int]:
     """An answer as a number: a name of an error as a negative one."""
     if answer.lstrip("-").isdigit():
         return int(answer)
@@ -174,23 +175,23 @@ def is_same(made: Made) -> bool:
     return real == play or made.name in ("openat", "getpid") and real >= 0 and play >= 0
 
 
-def text_at(made, at, otherwise=b""):
+def text_at(made: Any, at: int, otherwise: Optional[bytes] = b"") -> bytes:
     """The text that an argument of the call leads to, where the trace tells it."""
     return made.texts.get(made.numbers[at], otherwise) if at < len(made.numbers) else otherwise
 
 
-def text_of(made):
+def text_of(made: Made) -> bytes:
     """The path of the call, or nothing."""
     return text_at(made, OF_PATH[made.name]) if made.name in OF_PATH else b""
 
 
-def base_of(made):
+def base_of(made: Made) -> Optional[int]:
     """The descriptor of the directory from which the path of the call begins, or None."""
     is_relative = made.name in ("openat", "mknodat") and not text_of(made).startswith(b"/")
     return made.numbers[0] if is_relative and made.numbers[0] >= 0 else None
 
 
-def shown_arguments(made):
+def shown_arguments(made: Made) -> str:
     """The arguments with the path alone readable: strace's own text, without the structures."""
     parts = split(made.shown)
     return ", ".join(it if not it.startswith("{") else "{..}" for it in parts)

@@ -2,7 +2,7 @@
 from __future__ import annotations
 
 import struct
-from typing import List, NamedTuple
+from typing import Any, List, NamedTuple, Optional
 
 X86_64 = 0xC000003E
 WORDS = {
@@ -29,12 +29,12 @@ class Filter(NamedTuple):
     listener: bool
 
 
-def from_bytes(raw):
+def from_bytes(raw: bytes) -> List[Instruction]:
     """The instructions that libseccomp exports and the kernel gives back: eight bytes each."""
     return [Instruction(*INSTRUCTION.unpack_from(raw, at)) for at in range(0, len(raw), INSTRUCTION.size)]
 
 
-def to_bytes(instructions):
+def to_bytes(instructions: List[Instruction]) -> bytes:
     return b"".join(INSTRUCTION.pack(*instruction) for instruction in instructions)
 
 
@@ -42,7 +42,7 @@ def action(value: int) -> int:
     return value & 0xFFFF0000
 
 
-def answers(instructions, wanted):
+def answers(instructions: List[Instruction], wanted: int) -> bool:
     """Whether a `ret` of the filter has this action."""
     return any(it.code == WORDS["ret"] and action(it.value) == wanted for it in instructions)
 
@@ -59,7 +59,7 @@ def unwritable(instructions):
     return None
 
 
-def line(instruction):
+def line(instruction: Instruction) -> str:
     """The line that states an instruction."""
     word = NAMES[instruction.code]
     if word == "neg":
@@ -69,7 +69,7 @@ def line(instruction):
     return f"{word} 0x{instruction.value:x}" if word in ("ret", "ldi") else f"{word} {instruction.value}"
 
 
-def block(instructions, listener):
+def block(instructions: List[Instruction], listener: bool) -> List[str]:
     """The lines of a filter in a script."""
     return ["filter listener" if listener else "filter", *map(line, instructions), "end"]
 
@@ -91,7 +91,7 @@ def notify_filter(numbers: List[int]) -> List[Instruction]:
             Instruction(WORDS["ld"], 0, 0, 0), *tests, Instruction(WORDS["ret"], 0, 0, ALLOW), Instruction(WORDS["ret"], 0, 0, NOTIFY)]
 
 
-def read_blocks(text):
+def read_blocks(text: str) -> Optional[List[Filter]]:
     """The filters of lines as a script has them. Raises ValueError, with the line's number, where one isn't such a line."""
     filters, block = [], None
     for at, words in enumerate((it.split() for it in text.splitlines()), 1):
@@ -116,7 +116,7 @@ def data_of(call: int, arguments: List[int], architecture: int) -> bytes:
     return struct.pack("<iIQ6Q", call, architecture, 0, *(it % 2**64 for it in arguments))
 
 
-def arithmetic(word, left, right):
+def arithmetic(word: str, left: int, right: int) -> int:
     return {
         "add": lambda: left + right, "sub": lambda: left - right, "or": lambda: left | right, "and": lambda: left & right,
         "xor": lambda: left ^ right, "lsh": lambda: left << right, "rsh": lambda: left >> right, "neg": lambda: -left,
@@ -152,7 +152,7 @@ def signed(value: int) -> int:
     return value - 2**32 if value >= 2**31 else value
 
 
-def verdict(filters, call, arguments=(0,) * 6, architecture=X86_64):
+def verdict(filters: Any, call: int, arguments: Any = (0,) * 6, architecture: int = X86_64) -> str:
     """What a script's journal says of a call under these filters, of which the newest is the last."""
     data = data_of(call, arguments, architecture)
     found = [(run(it.instructions, data), it.listener) for it in reversed(filters)] or [(ALLOW, False)]

@@ -3,8 +3,10 @@
 Whatever the trace explains, the play's own answer has it already. So a changed answer is excused only where nothing in the script tells it from the
 play's own: another number of a descriptor, and a call whose answer nobody saw in the trace.
 """
+from __future__ import annotations
+
 from dataclasses import replace
-from typing import NamedTuple
+from typing import Any, List, NamedTuple, Tuple
 
 from tools.commands.real_workloads import answers, difference_names
 
@@ -31,7 +33,7 @@ def is_alike(made, outcome):
     return outcome == made.play or are_numbers or answers.is_same(replace(made, play=outcome)) or made.real == "?"
 
 
-def tried(script_text, report_text):
+def tried(script_text: str, report_text: str) -> Tuple[int, List[Any]]:
     """How many outcomes were changed, and those that got a name."""
     script = answers.Script(script_text)
     calls = answers.paired(script, answers.Report(report_text))

@@ -3,12 +3,19 @@
 Each name asks for the very pair of answers, and for what makes it so: in the call's arguments, in what the script says of the trace, in the audit of
 the report, or in an earlier call whose answer differed. A pair that none of them explains has no name.
 """
+from __future__ import annotations
+
+from typing import TYPE_CHECKING, Any, Optional, Tuple
+
 from tools.commands.linux_stage.attributes import MOST_OF_A_VALUE as MOST_OF_LINUX
 from tools.commands.linux_stage.attributes import NO_NAMESPACE, WITHOUT_RIGHTS, is_refused_for_its_name, is_refused_for_its_value
 from tools.commands.real_workloads.answers import OF_PATH, base_of, is_same, number_of, text_at, text_of
 from tools.commands.real_workloads.calls import BIND, CREATE, MOVE, PROPAGATION, REMOUNT
 from tools.commands.real_workloads.finds import BEHIND_A_DIRECTORY, BEHIND_A_FILE, BELOW_MISSING, BELOW_THERE, MISSING, THERE
 from tools.commands.real_workloads.tree import place
+
+if TYPE_CHECKING:
+    from tools.commands.real_workloads.answers import Made
 
 WALK = ("ENOENT", "ENOTDIR", "ELOOP", "ENAMETOOLONG")
 NO_PERMISSION = ("EACCES", "EPERM")
@@ -39,12 +46,12 @@ class Naming:
         self.opened = set()  # tasks that opened something in one of the two alone
         self.descriptors = {}  # where descriptors lead to that the play opened, by tasks and numbers
 
-    def name(self, made):
+    def name(self, made: Made) -> None:
         if not is_same(made):
             made.difference = self.found(made) or "?"
         self.note(made)
 
-    def found(self, made):
+    def found(self, made: Made) -> Optional[str]:
         if made.real == "?":
             return "ended-meanwhile"
         if made.play in ("", "open"):
@@ -58,7 +65,7 @@ class Naming:
 
     # ---- what follows from an earlier call
 
-    def path_of(self, made):
+    def path_of(self, made: Made) -> Optional[Tuple[bytes, ...]]:
         """The path of the call as names from the root, or None. One from a descriptor that isn't known counts with its number."""
         text, base = text_of(made), base_of(made)
         if not text:
@@ -70,7 +77,7 @@ class Naming:
         known = next((self.descriptors[it] for it in holders if it in self.descriptors), None)
         return place((made.task.encode(), str(base).encode()) if known is None else known, text)
 
-    def note(self, made):
+    def note(self, made: Made) -> None:
         """Remembers what a later call may follow from."""
         path = self.path_of(made)
         if made.name == "mount" and made.play == "0" and path is not None:
@@ -91,7 +98,7 @@ class Naming:
         elif made.name == "setxattr":
             self.attributes.add((path, text_at(made, 1)))
 
-    def of_another(self, made):
+    def of_another(self, made: Made) -> Optional[str]:
         if "EBADF" in (made.real, made.play):
             return self.of_descriptor(made)
         path = self.path_of(made)
@@ -107,7 +114,7 @@ class Naming:
             follows = follows or "0" in (made.real, made.play) and (made.real in of_flags(made) or made.play in of_flags(made))
         return "after-another" if follows else None
 
-    def of_descriptor(self, made):
+    def of_descriptor(self, made: Made) -> Optional[str]:
         """Of a number that isn't open in one of the two."""
         if made.name != "close" and base_of(made) is None:
             return None
@@ -130,15 +137,15 @@ class Naming:
 # ---- which pairs of answers tell what
 
 
-def is_device(made):
+def is_device(made: Any) -> bool:
     return made.name in ("mknod", "mknodat") and mode_of(made) & KIND in (CHARACTER, BLOCK)
 
 
-def mode_of(made):
+def mode_of(made: Made) -> int:
     return (made.numbers[made.name == "mknodat":] + [0, 0])[1]
 
 
-def is_done(made):
+def is_done(made: Made) -> bool:
     """Whether the play's answer is that of a path that leads where it is to: done, or refused for want of rights."""
     if made.name == "mount":
         return made.play == ("0" if made.verdict == "grant" else "EPERM")
@@ -147,13 +154,13 @@ def is_done(made):
     return made.play.isdigit() if made.name == "openat" else made.play == "0"
 
 
-def of_flags(made):
+def of_flags(made: Made) -> Tuple[str, ...]:
     """The errors of a setxattr that say whether the attribute is there."""
     flags = made.numbers[4]
     return ("EEXIST",) * (flags & 1 != 0) + ("ENODATA",) * (flags & 2 != 0)
 
 
-def is_found(made, what):
+def is_found(made: Made, what: str) -> bool:
     """Whether the pair of answers says that the play finds the path so, and the traced call found it otherwise."""
     real, play = made.real, made.play
     if what == BEHIND_A_FILE:
@@ -173,7 +180,7 @@ def is_found(made, what):
 # ---- each call by itself
 
 
-def of_verdict(made):
+def of_verdict(made: Made) -> Optional[str]:
     """Of what a filter or the policy decided."""
     verdict = made.verdict
     if verdict.startswith("errno="):
@@ -190,14 +197,14 @@ def of_verdict(made):
     return None
 
 
-def of_tree(made):
+def of_tree(made: Made) -> Optional[str]:
     """Of what the script says that the call finds in its tree, where that isn't what it found in the trace."""
     if made.name == "openat" and made.real.isdigit() and made.play == "ENOENT" and made.numbers[2] & CREATE and MISSING in made.finds:
         return "openat-only-walks"
     return next((name for what, name in made.finds.items() if is_found(made, what)), None)
 
 
-def of_call(made):
+def of_call(made: Made) -> Optional[str]:
     rule = {"mknod": of_mknod, "mknodat": of_mknod, "openat": of_openat, "mount": of_mount, "setxattr": of_setxattr}.get(made.name)
     return (rule(made) or of_any(made) or of_text(made)) if rule else None
 
@@ -208,7 +215,7 @@ def of_text(made):
     return "text-not-told" if made.play == "EFAULT" and any(is_unreadable(made, at) for at in texts) else None
 
 
-def of_any(made):
+def of_any(made: Made) -> Optional[str]:
     """What may come of each call with a path."""
     text = text_of(made)
     if not is_done(made):
@@ -223,7 +230,7 @@ def of_any(made):
     return None
 
 
-def of_openat(made):
+def of_openat(made: Made) -> Optional[str]:
     flags = made.numbers[2]
     if made.real in ("EMFILE", "ENFILE"):
         return "openat-full-table" if made.play in (*WALK, "EFAULT") else "no-free-descriptor" if made.play.isdigit() else None
@@ -236,7 +243,7 @@ def of_openat(made):
     return "openat-only-walks" if flags & OF_FLAGS.get(made.real, 0) or made.real in OF_NODES else None
 
 
-def of_mknod(made):
+def of_mknod(made: Made) -> Optional[str]:
     kind = mode_of(made) & KIND
     device = (made.numbers[made.name == "mknodat":] + [0, 0])[2]
     first = {"EPERM": kind == DIRECTORY_KIND, "EINVAL": kind not in (*KINDS, DIRECTORY_KIND)}.get(made.real, False)
@@ -249,11 +256,11 @@ def of_mknod(made):
     return None
 
 
-def is_unreadable(made, at):
+def is_unreadable(made: Made, at: int) -> bool:
     return made.numbers[at] != 0 and text_at(made, at, None) is None
 
 
-def of_mount(made):
+def of_mount(made: Made) -> Optional[str]:
     flags = made.numbers[3]
     if made.play in ("EFAULT", "EINVAL") and made.numbers[4] and (is_unreadable(made, 4) or len(text_at(made, 4)) >= LONGEST_PATH) and made.real != made.play:
         return "mount-data"
@@ -278,11 +285,11 @@ def of_granted_mount(made, flags):
     return "mount-source" if is_of_source or made.real in OF_FILE_SYSTEMS else None
 
 
-def is_too_long(path):
+def is_too_long(path: bytes) -> bool:
     return len(path) >= LONGEST_PATH or any(len(part) > LONGEST_PART for part in path.split(b"/"))
 
 
-def of_attribute(made):
+def of_attribute(made: Made) -> Optional[str]:
     """Of a name or a value that Linux refuses."""
     name = text_at(made, 1)
     is_set = made.play == "0" and (made.verdict == "grant" or name.startswith(b"user."))
@@ -293,7 +300,7 @@ def of_attribute(made):
     return "attribute-values" if is_set and is_refused_for_its_value(name, made.real, made.numbers[3]) else None
 
 
-def of_setxattr(made):
+def of_setxattr(made: Made) -> Optional[str]:
     name, size, flags = text_at(made, 1), made.numbers[3], made.numbers[4] & 0xFFFFFFFF
     if made.play == "E2BIG":
         if size > MOST_OF_LINUX:

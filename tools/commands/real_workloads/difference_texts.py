@@ -1,4 +1,6 @@
 """What the names of differences between a trace and a play stand for."""
+from __future__ import annotations
+
 import json
 import os
 
@@ -32,7 +34,7 @@ CLASSES = {
 }
 
 
-def text_of_class(name):
+def text_of_class(name: str) -> str:
     """What a name stands for. Known differences from Linux are told where their list is."""
     if CLASSES.get(name):
         return CLASSES[name]

@@ -9,6 +9,7 @@ from tools.commands.real_workloads.tree import MADE, MISSING, THERE, kind_of, pl
 
 if TYPE_CHECKING:
     from tools.commands.real_workloads.strace_text import Call
+    from tools.commands.real_workloads.tasks import Descriptors
     from tools.commands.real_workloads.tree import Tree
 
 # where their paths stand: alone, or behind a directory's descriptor
@@ -50,7 +51,7 @@ def kind_shown(text: str) -> Optional[Tuple[Any, ...]]:
         return None
 
 
-def path_of(call, arguments, at_directory, at_path, table):
+def path_of(call: Call, arguments: List[str], at_directory: Optional[int], at_path: int, table: Descriptors) -> Optional[Tuple[bytes, ...]]:
     """Where the path of a call leads to, or None."""
     if at_path >= len(arguments):
         return None
@@ -87,7 +88,7 @@ def learn(call, table, tree):
         pass
 
 
-def deed_of(call, arguments):
+def deed_of(call: Any, arguments: Any) -> Any:
     """What a successful call does to paths, and where these stand among its arguments."""
     if call.name in MAKE_WITH_FLAG:
         makes = len(arguments) > 1 and number(arguments[1 + (call.name == "openat")]) & CREATE
@@ -99,7 +100,7 @@ def deed_of(call, arguments):
     return DEEDS.get(call.name, ("", []))
 
 
-def of_descriptor(call, arguments, table, tree):
+def of_descriptor(call: Call, arguments: List[str], table: Descriptors, tree: Tree) -> None:
     path = table.place_of(*directory(arguments[0]))
     if not path or not call.answer.is_good:
         return
@@ -142,7 +143,7 @@ def kind_found(call: Call, arguments: List[str]) -> Optional[Tuple[Any, ...]]:
     return None
 
 
-def process_number(argument):
+def process_number(argument: str) -> int:
     """A PID as strace has it, also where the call's is one of another namespace."""
     translated = IN_STRACES_NAMES.search(argument)
     return int(translated[1]) if translated else number(argument)

@@ -2,7 +2,7 @@
 from __future__ import annotations
 
 from collections import Counter
-from typing import TYPE_CHECKING, List
+from typing import TYPE_CHECKING, Any, List
 
 from tools.commands.real_workloads.processes import MAKERS
 from tools.commands.real_workloads.script_lines import plain
@@ -14,7 +14,7 @@ if TYPE_CHECKING:
     from tools.commands.real_workloads.workload import Workload
 
 
-def counted(counter):
+def counted(counter: Any) -> str:
     return ", ".join(f"{name} {count:,}" for name, count in sorted(counter.items(), key=lambda it: (-it[1], it[0])))
 
 
@@ -38,7 +38,7 @@ def findings(made: Workload) -> List[str]:
     return found
 
 
-def of_no_form(made):
+def of_no_form(made: Workload) -> Any:
     """How often the calls were made that are looked at for what they tell alone."""
     silent = WANTED - set(CALLS) - NO_FORM - MAKERS - set(WAITS) - set(KILLS)
     return Counter(item.of.name for item in made.trace.items if item.what in ("call", "begin") and item.of.name in silent)
@@ -64,7 +64,7 @@ def programs(made: Workload) -> List[str]:
     return lines + ["", *made.schedule.lines()]
 
 
-def pages(made):
+def pages(made: Workload) -> List[Any]:
     """The memory that is mapped, where tasks that share it need more than a script has without a line."""
     needed = PAGES_OF_A_TASK * (1 + max((task.slot for task in made.all), default=0))
     return [f"map 0x{FIRST_ADDRESS:x} {MOST_PAGES}"] if needed > FIRST_PAGES else []

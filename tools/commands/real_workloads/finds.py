@@ -7,11 +7,12 @@ from __future__ import annotations
 
 import re
 from dataclasses import dataclass
-from typing import TYPE_CHECKING, Tuple, Union
+from typing import TYPE_CHECKING, Any, Dict, List, Optional, Tuple, Union
 
 if TYPE_CHECKING:
     from tools.commands.real_workloads.calls import Made
     from tools.commands.real_workloads.strace_text import Call
+    from tools.commands.real_workloads.tree import Tree
 
 # what a call finds in the script's tree
 THERE, MISSING, BELOW_THERE, BELOW_MISSING = "there", "missing", "in a directory that is there", "in a missing directory"
@@ -50,7 +51,7 @@ class Finds:
         self.elsewhere = {}  # the first lines whose paths begin elsewhere than at the script's root, by where these lead to from it
         self.line, self.path, self.is_elsewhere = 0, None, False  # of the call whose facts are noted
 
-    def begin(self, line, path, is_elsewhere):
+    def begin(self, line: int, path: Optional[Tuple[bytes, ...]], is_elsewhere: bool) -> None:
         """What is noted from now on is what this call found."""
         self.line, self.path, self.is_elsewhere = line, path, is_elsewhere
 
@@ -59,7 +60,7 @@ class Finds:
         if self.is_elsewhere:
             self.elsewhere.setdefault(path, self.line)
 
-    def is_file(self, path):
+    def is_file(self, path: Tuple[bytes, bytes]) -> None:
         """A call found that a path leads through what is no directory."""
         self.files.append((path, self.line))
 
@@ -77,7 +78,7 @@ class Finds:
                 told[line, BEHIND_A_DIRECTORY] = self.reason(tree, path, line)
         return [f"# in the play line {line} finds its path {what}: {why}" for (line, what), why in sorted(told.items())]
 
-    def tell_existence(self, tree, path, found, told):
+    def tell_existence(self, tree: Tree, path: Tuple[bytes, ...], found: List[Found], told: Dict[Tuple[int, str], str]) -> None:
         is_there = path == () or path in tree.stated
         for it, others in zip(found, nearest_otherwise(found)):
             if (it.fact == "there") != is_there:
@@ -87,13 +88,13 @@ class Finds:
                 self.tell_files(tree, path, it, told)
             is_there = is_there or it.fact == "made"
 
-    def tell_files(self, tree, path, it, told):
+    def tell_files(self, tree: Tree, path: Tuple[bytes, ...], it: Found, told: Dict[Tuple[int, str], str]) -> None:
         """A path that is missing may lead through what is a file in the tree."""
         for length in range(1, len(path)):
             if tree.stated.get(path[:length], ("dir",))[0] not in ("dir", "link"):
                 told[it.line, BEHIND_A_FILE] = self.reason(tree, path[:length], it.line)
 
-    def reason(self, tree, path, line, others=None):
+    def reason(self, tree: Tree, path: Tuple[bytes, ...], line: int, others: Optional[List[Tuple[int, bool]]] = None) -> str:
         """The name of what the trace shows of a path, or of a directory in front of it, and where. `others` are the nearest lines that found the
         path there where this one found it missing, or the other way round, each with whether it was there: what changed it stands between."""
         if tree.starts_with(path) and path not in tree.stated:
@@ -125,20 +126,20 @@ def nearest_otherwise(found):
     return nearest
 
 
-def is_between(change, path, line, others):
+def is_between(change: Any, path: Any, line: int, others: Any) -> bool:
     """Whether a change of a path, or of a directory in front of it, stands between two calls that found the path otherwise."""
     if others is not None and not any(leads_over(change, line, other, was_there) for other, was_there in others):
         return False
     return change.path != path or change.deed not in ("binds", "mounts", "unmounts")
 
 
-def leads_over(change, line, other, was_there):
+def leads_over(change: Change, line: int, other: int, was_there: bool) -> bool:
     """Whether a change stands between a line and another one that found a path there, or found it missing, and makes the one of the other."""
     is_made = was_there == (other > line)  # what is missing first is there later
     return min(line, other) <= change.line <= max(line, other) and change.deed != ("removes" if is_made else "makes")
 
 
-def read(line):
+def read(line: str) -> Optional[Tuple[int, str, str]]:
     """The line of the trace, what its call finds, and the name of the difference, of a line of a script; or None."""
     found = LINE.match(line)
     return (int(found[1]), found[2], found[3]) if found else None

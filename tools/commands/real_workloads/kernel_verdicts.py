@@ -4,6 +4,8 @@ A child installs a guard and then the filters, and makes the calls. The guard ke
 TRACE, which nobody traces (ENOSYS), or in a second child an error that no filter has. Notified calls are answered with another such error. So what a
 call returns tells what the filters say. The child can make no call of its own by then, and leaves what it finds in shared memory.
 """
+from __future__ import annotations
+
 import ctypes
 import fcntl
 import mmap
@@ -12,6 +14,7 @@ import select
 import signal
 import struct
 import time
+from typing import List
 
 from tools.commands.real_workloads import bpf
 
@@ -38,7 +41,7 @@ def guard(answer):
     return [bpf.Instruction(bpf.WORDS[word], *rest) for word, *rest in words]
 
 
-def install(instructions, flags):
+def install(instructions: List[bpf.Instruction], flags: int) -> int:
     raw = ctypes.create_string_buffer(bpf.to_bytes(instructions))
     program = Program(len(instructions), ctypes.addressof(raw))
     found = libc.syscall(SECCOMP, SET_FILTER, flags, ctypes.addressof(program), 0, 0, MAGIC)

@@ -1,7 +1,10 @@
 """The numbers that C's names in a trace stand for: flags, modes, signals, and some others."""
+from __future__ import annotations
+
 import os
 import signal
 import stat
+from typing import Optional
 
 MOUNT_FLAGS = {
     "MS_RDONLY": 1, "MS_NOSUID": 2, "MS_NODEV": 4, "MS_NOEXEC": 8, "MS_SYNCHRONOUS": 16, "MS_REMOUNT": 32, "MS_MANDLOCK": 64, "MS_DIRSYNC": 128,
@@ -19,7 +22,7 @@ OTHER_NAMES = {"AT_FDCWD": -100, "NULL": 0, "XATTR_CREATE": 1, "XATTR_REPLACE": 
                "SIG_DFL": 0, "SIG_IGN": 1, "SA_RESTART": 0x10000000, "F_DUPFD": 0, "F_SETFD": 2, "F_DUPFD_CLOEXEC": 1030, "FD_CLOEXEC": 1, "O_LARGEFILE": 0}
 
 
-def value_of(name):
+def value_of(name: str) -> Optional[int]:
     """What a name that strace prints for a number stands for, or None."""
     for table in (OTHER_NAMES, MOUNT_FLAGS, CLONE_FLAGS):
         if name in table:

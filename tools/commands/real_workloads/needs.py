@@ -1,7 +1,7 @@
 """What a call of the script needs of the tree, for the answer that the traced one got."""
 from __future__ import annotations
 
-from typing import TYPE_CHECKING, Optional, Tuple
+from typing import TYPE_CHECKING, Any, Optional, Tuple
 
 from tools.commands.linux_stage.attributes import MOST_OF_A_VALUE
 from tools.commands.real_workloads.calls import CLOSE_ON_EXEC, CREATE, DIRECTORY
@@ -55,12 +55,12 @@ def note_left(found: Made, descriptors: Descriptors, answer: Answer, tree: Tree)
             names.append(name)
 
 
-def of_loop(found, path, tree):
+def of_loop(found: Made, path: Tuple[bytes, ...], tree: Tree) -> None:
     """A link that leads to itself, unless the trace has told of another one."""
     tree.loops.add(path[:-1] if found.name in ("mknod", "mknodat") else path)
 
 
-def ends_with_slash(found):
+def ends_with_slash(found: Any) -> bool:
     return found.path.endswith(b"/") and found.path.strip(b"/") != b""
 
 

@@ -6,7 +6,7 @@ Where that is a number of another namespace and strace didn't translate it, the 
 from __future__ import annotations
 
 from dataclasses import dataclass, field
-from typing import TYPE_CHECKING, List, Set
+from typing import TYPE_CHECKING, Any, List, Set
 
 from tools.commands.real_workloads.strace_text import number, text_or_address, Text, Unreadable, field as field_of
 
@@ -54,7 +54,7 @@ class Processes:
         for item in items:
             self.take(item)
 
-    def take(self, item):
+    def take(self, item: Any) -> None:
         process = self.callers.get(id(item.of)) or self.alive.get(item.of.pid) or self.birth(item)
         self.of_item.append(process)
         if item.what == "superseded":
@@ -69,7 +69,7 @@ class Processes:
         else:
             self.take_call(item.what, item.of, process)
 
-    def take_call(self, what, call, process):
+    def take_call(self, what: str, call: Any, process: Any) -> None:
         if what == "begin":
             self.callers[id(call)] = process
         if what != "end" and call.name in MAKERS and call.answer.is_good and call.answer.value > 0:
@@ -77,7 +77,7 @@ class Processes:
         if what != "begin" and call.name == "execve" and call.answer.is_good:
             process.programs.append(program_of(call))
 
-    def birth(self, item):
+    def birth(self, item: Any) -> Any:
         """The process of an item with a number that nobody has."""
         process = Process(item.of.pid, item.line)
         found = next((it for it in self.open if it[0].answer.pid == item.of.pid), None)

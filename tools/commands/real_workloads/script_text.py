@@ -2,6 +2,7 @@
 from __future__ import annotations
 
 import re
+from typing import List, Union
 
 CALLS = {"close": 3, "getpid": 39, "sysinfo": 99, "mknod": 133, "mount": 165, "setxattr": 188, "openat": 257, "mknodat": 259}
 SIGNALS = {9, 10, 12, 15}
@@ -26,10 +27,10 @@ def quoted(content: bytes) -> str:
     return '"' + "".join(map(printed, content)) + '"'
 
 
-def unquoted(content):
+def unquoted(content: bytes) -> bytes:
     return ESCAPE.sub(lambda it: bytes([int(it[1], 16)]) if it[1] else ESCAPES.get(it[2], it[2]), content)
 
 
-def tokens(line):
+def tokens(line: str) -> List[Union[bytes, str]]:
     """The tokens of a line that the program takes: texts for bare ones, bytes for quoted ones."""
     return [it[0].decode() if it[1] is None else unquoted(it[1]) for it in TOKEN.finditer(line.encode("latin-1"))]

@@ -6,7 +6,8 @@ import signal
 import sys
 from dataclasses import dataclass
 from functools import lru_cache
-from typing import List, NamedTuple, Optional, Tuple, Union
+from io import BytesIO
+from typing import Any, BinaryIO, List, Match, NamedTuple, Optional, Set, Tuple, Union
 
 from tools.commands.real_workloads.named_numbers import value_of
 
@@ -63,7 +64,7 @@ class Answer(NamedTuple):
     def is_good(self) -> bool:
         return self.value is not None and not self.error
 
-    def __str__(self):
+    def __str__(self) -> str:
         return "?" if self.value is None else self.error or str(self.value)
 
 
@@ -151,7 +152,7 @@ def unescaped(text: str) -> bytes:
     if HEXADECIMAL.fullmatch(text):
         return bytes.fromhex(text.replace("\\x", ""))
 
-    def byte(found):
+    def byte(found: Match[Any]) -> bytes:
         digits, octal, letter = found.groups()
         return bytes([int(digits, 16)]) if digits else bytes([int(octal, 8) & 0xFF]) if octal else ESCAPES.get(letter, letter)
 
@@ -284,7 +285,7 @@ class Trace:
         return True
 
 
-def read(file, wanted):
+def read(file: Union[BinaryIO, BytesIO], wanted: Set[str]) -> Trace:
     """The trace of a file that is opened for bytes. It ends before a line that is longer than any of strace's, as that of an endless file is."""
     trace = Trace(wanted)
     for line in iter(lambda: file.readline(MOST_OF_A_LINE), b""):

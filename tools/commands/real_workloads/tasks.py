@@ -2,7 +2,7 @@
 from __future__ import annotations
 
 from dataclasses import dataclass, field
-from typing import TYPE_CHECKING, Tuple
+from typing import TYPE_CHECKING, Any, Optional, Tuple
 
 from tools.commands.real_workloads.calls import CURRENT_DIRECTORY
 from tools.commands.real_workloads.script_text import FIRST_ADDRESS, PAGE
@@ -11,6 +11,7 @@ from tools.commands.real_workloads.tree import place
 if TYPE_CHECKING:
     from tools.commands.real_workloads.calls import Made
     from tools.commands.real_workloads.processes import Process
+    from tools.commands.real_workloads.strace_text import Call
 
 CONSOLES = (0, 1, 2)
 # calls after which paths begin elsewhere than at the script's root
@@ -51,7 +52,7 @@ class Descriptors:
         self.places.pop(real, None)
         self.close_on_exec.discard(real)
 
-    def closed(self, real):
+    def closed(self, real: int) -> None:
         self.used.discard(self.numbers.get(real))
         self.forget(real)
 
@@ -59,7 +60,7 @@ class Descriptors:
         for real in list(self.close_on_exec):
             self.forget(real)
 
-    def place_of(self, real, path):
+    def place_of(self, real: int, path: Optional[bytes]) -> Optional[Tuple[bytes, ...]]:
         """Where a number leads to, as names from the root: as the script opened it, or as strace says."""
         if real == CURRENT_DIRECTORY:
             return ()
@@ -102,7 +103,7 @@ class Task:
         """Where its texts are stored."""
         return FIRST_ADDRESS + self.slot * PAGES_OF_A_TASK * PAGE
 
-    def move(self, call):
+    def move(self, call: Call) -> None:
         """Notes that its working directory or its root is another one from now on."""
         if call.name in ("chroot", "pivot_root"):
             self.has_other_root = True
@@ -117,7 +118,7 @@ class Task:
             return False
         return self.has_other_directory if directory is None else directory != b"/"
 
-    def child(self, program, process, is_thread):
+    def child(self, program: str, process: Any, is_thread: bool) -> Any:
         """The task that its next `spawn` or `thread` makes."""
         shared = self.descriptors if is_thread else self.descriptors.copy()
         sharing = self.sharing if is_thread else [1]

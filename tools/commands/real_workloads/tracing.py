@@ -1,7 +1,10 @@
 """Asks the kernel for the filters of a process that runs (ptrace(2), PTRACE_SECCOMP_GET_FILTER)."""
+from __future__ import annotations
+
 import ctypes
 import errno
 import os
+from typing import Optional
 
 SEIZE, INTERRUPT, DETACH, GET_FILTER = 0x4206, 0x4207, 17, 0x420C
 ALL_CHILDREN = 0x40000000
@@ -16,7 +19,7 @@ class Refused(Exception):
     """The kernel refuses. The text says what."""
 
 
-def trace(request, pid, address=None, data=None):
+def trace(request: int, pid: int, address: Optional[int] = None, data: Optional[ctypes.c_void_p] = None) -> Optional[int]:
     """A call of ptrace. Raises OSError."""
     found = libc.ptrace(request, pid, address, data)
     if found < 0:

@@ -7,7 +7,7 @@ from __future__ import annotations
 
 import stat
 from collections import defaultdict
-from typing import Any, List, Optional, Tuple
+from typing import Any, List, Optional, Set, Tuple
 
 from tools.commands.real_workloads.finds import Finds
 from tools.commands.real_workloads.script_text import MOST_NODES, quoted
@@ -94,7 +94,7 @@ class Tree:
         """Whether nothing in front of the path is missing."""
         return all(self.starts_with(path[:length]) for length in range(1, len(path)))
 
-    def links_to_themselves(self):
+    def links_to_themselves(self) -> Set[Tuple[bytes, bytes]]:
         """The shortest of the paths that lead nowhere, unless they lead somewhere at another time."""
         return {path for path in self.loops if path and path not in self.followed and self.writable(path)
                 and not any(path[:length] in self.loops for length in range(1, len(path)))}

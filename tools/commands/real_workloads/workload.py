@@ -3,7 +3,7 @@ from __future__ import annotations
 
 from collections import Counter
 from dataclasses import dataclass, field
-from typing import TYPE_CHECKING, Dict, Optional, Tuple
+from typing import TYPE_CHECKING, Any, Dict, Optional, Tuple
 
 from tools.commands.real_workloads import bpf, calls, facts, needs
 from tools.commands.real_workloads.calls import CURRENT_DIRECTORY, HAS_BASE, PARTS
@@ -93,7 +93,7 @@ class Workload:
         elif item.what in ("call", "begin") and item.of.name in self.options.calls:
             self.remarks["calls behind the place where it is cut"] += 1
 
-    def take(self, item, process):
+    def take(self, item: Any, process: Any) -> None:
         if item.what != "end" and self.is_full():
             self.cut_at = item.line
             self.behind_the_cut(item, process)
@@ -142,13 +142,13 @@ class Workload:
         self.instructions += 1
         self.schedule.task(task, steps)
 
-    def put(self, task, *lines):
+    def put(self, task: Task, *lines: str) -> None:
         task.lines += lines
         self.bytes += sum(map(len, lines)) + len(lines)
 
     # ---- calls
 
-    def take_call(self, item, task):
+    def take_call(self, item: Any, task: Any) -> None:
         call = item.of
         if item.what != "end":
             self.begin_call(call, task, item.line)
@@ -304,13 +304,13 @@ class Workload:
             elif it.found.name == "openat":
                 task.descriptors.opened(real, it.where, needs.closes_on_exec(it.found), in_script=True)
 
-    def answer(self, task, it):
+    def answer(self, task: Any, it: Any) -> None:
         """What a worker does behind its receive, and the task's steps behind that: it resumes, and runs natively where the call is passed."""
         if task.name in self.schedule.serving:
             self.work(task, it)
         self.schedule.task(task, 1 if it.found.name == "openat" else 2)
 
-    def work(self, task, it):
+    def work(self, task: Any, it: Any) -> None:
         """The steps of a worker behind its receive, as many as a grant takes."""
         name = it.found.name
         self.schedule.serve(task, 5 + it.pieces + (name in HAS_BASE) + (name in HAS_BASE - {"openat"} or name == "sysinfo"))
@@ -320,7 +320,7 @@ class Workload:
             self.schedule.serve(task, 3)
         self.schedule.let_go(task)
 
-    def move_descriptors(self, call, task):
+    def move_descriptors(self, call: Any, task: Any) -> None:
         """What a call that the script doesn't have does to the descriptors of the process."""
         table = task.descriptors
         try:
@@ -340,7 +340,7 @@ class Workload:
 
     # ---- signals and ends
 
-    def wait(self, call, task):
+    def wait(self, call: Any, task: Any) -> None:
         if call.answer.value is None or call.answer.error or call.name != "waitid" and call.answer.value <= 0:
             return
         pid = call.answer.pid
@@ -363,7 +363,7 @@ class Workload:
         except (Unreadable, IndexError):
             pass
 
-    def kill(self, call, task, line):
+    def kill(self, call: Any, task: Any, line: int) -> None:
         """Writes a signal, where the trace has the process that gets it, and that it came."""
         try:
             target, signal = (call.arguments[it] for it in KILLS[call.name])
@@ -383,11 +383,11 @@ class Workload:
         if came[0] != other.process.ended_at:
             other.pending.append(signal)
 
-    def processes_now(self, pid, line):
+    def processes_now(self, pid: int, line: int) -> Any:
         """The process that has a number at a line."""
         return next((it for it in reversed(self.processes.all) if it.pid == pid and it.first_line <= line and (it.ended_at or line) >= line), None)
 
-    def set_mode(self, task, signal, is_fatal):
+    def set_mode(self, task: Any, signal: int, is_fatal: bool) -> bool:
         """Writes what the signal does to the task that gets it, where it does something else there. False where it can't."""
         wanted = "default" if is_fatal else task.modes.get(signal, "restart")
         if signal == 9 or task.handlers.get(signal, "default") == wanted:
@@ -418,7 +418,7 @@ class Workload:
         self.ended(task)
 
     @staticmethod
-    def ended(task):
+    def ended(task: Any) -> None:
         if task.parent and not task.has_ended:
             task.parent.unreaped.append(task.parent.place_of_child(task))
         task.has_ended = True

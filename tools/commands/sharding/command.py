@@ -1,6 +1,10 @@
 """The command merge: what it does with its words."""
+from __future__ import annotations
+
 import json
 import sys
+from argparse import Namespace
+from typing import Any, Dict, List, Optional
 
 from tools.commands.command_line import written
 from tools.commands.command_line.arguments import Parser
@@ -18,7 +22,7 @@ MOST_BYTES = 268_435_456
 OF_ANOTHER_FORM = (KeyError, TypeError, ValueError, AttributeError, IndexError)
 
 
-def asked(words):
+def asked(words: List[str]) -> Optional[Namespace]:
     parser = Parser("merge")
     parser.add_argument("-o", "--output", metavar="FILE", help="the file that is written")
     parser.add_argument("files", metavar="FILE", nargs="+", help="the results of parts")
@@ -30,7 +34,7 @@ class Tests:
 
     described = staticmethod(tests.described)
 
-    def __init__(self, documents):
+    def __init__(self, documents: List[Dict[str, Any]]) -> None:
         self.document = tests.joined(documents)
         self.text = output.json_text(self.document) + "\n"
         files = self.document["files"]
@@ -44,7 +48,7 @@ class TestsAsXML:
 
     described = staticmethod(tests.described_xml)
 
-    def __init__(self, roots):
+    def __init__(self, roots: Any) -> None:
         suites, seconds = tests.joined_xml(roots)
         self.text = junit.text(suites, seconds)
         counts = junit.counted([case for it in suites for case in it.cases])
@@ -59,7 +63,7 @@ class Exploration:
 
     described = staticmethod(explorations.described)
 
-    def __init__(self, documents):
+    def __init__(self, documents: Any) -> None:
         explored = explorations.joined(documents)
         self.text = json.dumps(explorations.document(explored), ensure_ascii=False, indent=1) + "\n"
         self.said = telling.whole_text(explored).splitlines()
@@ -69,7 +73,7 @@ class Exploration:
 WORDS = {"test": Tests, explorations.WORD: Exploration}
 
 
-def bytes_of(path):
+def bytes_of(path: str) -> bytes:
     with open(path, "rb") as file:
         data = file.read(MOST_BYTES + 1)
     if len(data) > MOST_BYTES:
@@ -91,7 +95,7 @@ def read(path):
         raise NotJoined("it isn't the result of a part: give --shard I/N, and --json or --junit, to each") from None
 
 
-def read_all(paths):
+def read_all(paths: List[str]) -> Any:
     """What joins the results, the results in the order of their shares, and which shares are missing. Raises NotJoined and OSError."""
     known = []
     for path in paths:
@@ -137,7 +141,7 @@ def run(words):
     return NOT_WHOLE if lost else whole.status
 
 
-def main(words):
+def main(words: List[str]) -> Optional[int]:
     try:
         return run(asked(words))
     except NotJoined as fault:

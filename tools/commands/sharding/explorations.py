@@ -1,6 +1,8 @@
 """Explorations of a broker as JSON documents: a whole one, a share of one, and what joins shares."""
+from __future__ import annotations
+
 from dataclasses import dataclass, field
-from typing import Dict, List, Optional, Tuple
+from typing import TYPE_CHECKING, Any, Dict, List, Optional, Tuple, Union
 
 from tools.commands.exploring import telling
 from tools.commands.exploring.exploration import Explored
@@ -8,6 +10,9 @@ from tools.commands.exploring.kernels import Asked
 from tools.commands.exploring.runs import Kind, Played, Told, Trouble
 from tools.commands.exploring.schedules import Delay, Planned
 from tools.commands.sharding.shares import Described, Share, Unlike
+
+if TYPE_CHECKING:
+    from tools.commands.exploring.exploration import Found
 
 WORD = "explore-broker"
 # how an exploration came to its end
@@ -20,11 +25,11 @@ class ExploredShare(Explored):
 
     schedules: List[dict] = field(default_factory=list)
 
-    def take(self, played: Played):
+    def take(self, played: Played) -> None:
         super().take(played)
         self.schedules.append(schedule_of(played, self.is_smallest(played)))
 
-    def is_smallest(self, played):
+    def is_smallest(self, played: Played) -> bool:
         """Whether no run before shows the same thing with fewer delays or steps."""
         kept = [self.findings.get(played.told.about) if played.told else None, self.troubles.get(tuple(played.trouble)) if played.trouble else None]
         return any(found is not None and found.played is played for found in kept)
@@ -33,22 +38,22 @@ class ExploredShare(Explored):
 # ---- documents
 
 
-def shown_of(played: Played):
+def shown_of(played: Played) -> Dict[str, Any]:
     """What a finding shows of its run."""
     return {"requests": telling.requests_of(played).decode("latin-1").split("\n")[:-1], "output": played.output.decode("utf-8", "backslashreplace")}
 
 
-def told_of(told: Optional[Told]):
+def told_of(told: Optional[Told]) -> Dict[str, Union[int, str]]:
     assert told is not None
     return {"clause": told.clause, "class": told.gravity, "task": told.task, "call": told.ordinal, "text": told.text}
 
 
-def trouble_of(trouble: Optional[Trouble]):
+def trouble_of(trouble: Optional[Trouble]) -> Dict[str, Union[int, str]]:
     assert trouble is not None
     return {"kind": trouble.kind.value, "instance": trouble.instance, "text": trouble.text}
 
 
-def schedule_of(played: Played, is_shown):
+def schedule_of(played: Played, is_shown: bool) -> Dict[str, Any]:
     """A run, as a share tells it. Only the smallest ones of what was found are shown."""
     found = {"delays": [list(it) for it in played.planned.delays], "steps": played.steps, "history": played.digest.hex()}
     if played.told is not None:
@@ -58,11 +63,11 @@ def schedule_of(played: Played, is_shown):
     return {**found, "shown": shown_of(played)} if is_shown else found
 
 
-def heading(found):
+def heading(found: Found) -> Dict[str, int]:
     return {"delays": found.played.planned.total, "steps": found.played.steps, "runs": found.runs}
 
 
-def document(explored: Explored):
+def document(explored: Explored) -> Dict[str, Any]:
     """What was explored, as docs/schema/explore-broker.json describes it."""
     return {
         "word": WORD, "delays": explored.delays, "runs": explored.runs, "histories": len(explored.histories), "whole": "bound" if explored.is_whole else "no",
@@ -71,7 +76,7 @@ def document(explored: Explored):
     }
 
 
-def ending_of(explored, is_interrupted):
+def ending_of(explored: ExploredShare, is_interrupted: bool) -> str:
     if is_interrupted:
         return INTERRUPTED
     return BOUND if explored.is_whole else STOPPED if not explored.is_decided else LIMIT
@@ -86,12 +91,12 @@ def share_document(explored: ExploredShare, share: Share, of, limit, is_interrup
 # ---- joining
 
 
-def described(found) -> Described:
+def described(found: Dict[str, Any]) -> Described:
     told = found["shard"]
     return Described(Share(told["index"], told["count"]), f"{told['of']} {found['delays']} {told['limit']}", told["ended"] != INTERRUPTED)
 
 
-def played_of(schedule) -> Played:
+def played_of(schedule: Dict[str, Any]) -> Played:
     """The run that a share tells."""
     shown = schedule.get("shown", {"requests": [], "output": ""})
     told, trouble = schedule.get("finding"), schedule.get("trouble")
@@ -102,7 +107,7 @@ def played_of(schedule) -> Played:
         session=[Asked(it.encode("latin-1"), b"") for it in shown["requests"]], shown=len(shown["requests"]), output=shown["output"].encode())
 
 
-def all_runs(documents) -> Dict[Tuple[Delay, ...], Played]:
+def all_runs(documents: List[Dict[str, Any]]) -> Dict[Tuple[Delay, ...], Played]:
     """The runs of all shares by their schedules. Those with few delays are in several shares. Raises Unlike."""
     found: Dict[Tuple[Delay, ...], Played] = {}
     for it in documents:
@@ -113,7 +118,7 @@ def all_runs(documents) -> Dict[Tuple[Delay, ...], Played]:
     return found
 
 
-def joined(documents) -> Explored:
+def joined(documents: List[Dict[str, Any]]) -> Explored:
     """The exploration that the shares make up: it ends where the whole would have. Raises Unlike."""
     explored, limit = Explored(documents[0]["delays"]), documents[0]["shard"]["limit"]
     for played in sorted(all_runs(documents).values(), key=lambda it: (it.planned.total, it.planned.order())):

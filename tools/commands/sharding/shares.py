@@ -1,8 +1,10 @@
 """A share of a work: one of N parts. What belongs to a share depends on the work alone, never on the machine."""
+from __future__ import annotations
+
 import argparse
 import re
 from hashlib import blake2b
-from typing import Any, Dict, Iterable, NamedTuple
+from typing import Any, Dict, Iterable, List, NamedTuple, Tuple
 
 FORM = re.compile(r"(\d{1,6})/(\d{1,6})", re.ASCII)
 
@@ -14,7 +16,7 @@ class Share(NamedTuple):
     index: int  # type: ignore[assignment]
     count: int  # type: ignore[assignment]
 
-    def __str__(self):
+    def __str__(self) -> str:
         return f"{self.index}/{self.count}"
 
     def takes(self, place: int) -> bool:
@@ -57,7 +59,7 @@ class Described(NamedTuple):
     is_complete: bool = True
 
 
-def missing(described) -> list:
+def missing(described: List[Tuple[str, Described]]) -> list:
     """The shares that aren't there, or weren't finished, each with the reason. Raises NotJoined if some don't belong together."""
     known: Dict[int, Any] = {}
     for name, it in described:

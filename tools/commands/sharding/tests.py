@@ -1,4 +1,7 @@
 """Results of test files, as JSON documents or as XML: what joins those of shares."""
+from __future__ import annotations
+
+from typing import Any, Dict, Iterator, List, Optional, Tuple, Union
 from xml.etree import ElementTree
 
 from tools.commands.sharding.shares import Described, NotJoined, Share, share
@@ -9,31 +12,31 @@ from tools.commands.testing.results import Result
 # ---- JSON
 
 
-def described(document) -> Described:
+def described(document: Dict[str, Any]) -> Described:
     told = document["shard"]
     return Described(Share(told["index"], told["count"]), told["of"])
 
 
-def joined(documents):
+def joined(documents: List[Dict[str, Any]]) -> Dict[str, Any]:
     """The document of all tests, of those of the shares. A file that isn't understood in one of them has no tests."""
     return document_of_files([joined_file(parts) for parts in zip(*(it["files"] for it in documents))])
 
 
-def joined_file(parts):
+def joined_file(parts: Tuple[Dict[str, Any], ...]) -> Dict[str, Any]:
     faults = unique(fault for it in parts for fault in it["faults"])
     tests = [test for it in parts for test in it["tests"]]
     # (of tests on the same line all are in one share)
     return {"file": parts[0]["file"], "faults": sorted(faults, key=lambda it: (it["line"], it["column"])), "tests": [] if faults else sorted(tests, key=lambda it: it["line"])}
 
 
-def unique(items):
+def unique(items: Iterator[Any]) -> List[Dict[str, Union[int, str]]]:
     found = []
     for it in items:
         found += [] if it in found else [it]
     return found
 
 
-def lines(document):
+def lines(document: Dict[str, Any]) -> Iterator[str]:
     """What is said of the tests that failed, and of what wasn't understood."""
     for file in document["files"]:
         for it in file["faults"]:
@@ -48,7 +51,7 @@ def lines(document):
 # ---- XML
 
 
-def read_xml(data):
+def read_xml(data: bytes) -> Optional[ElementTree.Element]:
     """The root of results as XML. Raises NotJoined."""
     if b"<!" in data:
         raise NotJoined("declarations of types aren't read")
@@ -61,12 +64,12 @@ def read_xml(data):
     return root
 
 
-def described_xml(root) -> Described:
+def described_xml(root: Any) -> Described:
     stated = {it.get("name"): it.get("value") for it in root.iter("property")}
     return Described(share(stated[junit.SHARD]), stated[junit.OF])
 
 
-def joined_xml(roots):
+def joined_xml(roots: List[ElementTree.Element]) -> Tuple[List[junit.Suite], float]:
     """The suites of all tests, and the seconds: those of the share that took longest."""
     suites = [joined_suite(parts) for parts in zip(*(it.findall("testsuite") for it in roots))]
     return suites, longest(roots)
@@ -79,11 +82,11 @@ def joined_suite(parts):
     return junit.Suite(parts[0].get("name"), sorted(kept, key=lambda it: int(it.get("line"))), longest(parts))
 
 
-def longest(elements):
+def longest(elements: Any) -> float:
     return max(float(it.get("time")) for it in elements)
 
 
-def lines_xml(suites):
+def lines_xml(suites: List[junit.Suite]) -> Iterator[str]:
     """What is said of the tests that failed, and of what wasn't understood."""
     for suite in suites:
         for case in suite.cases:
