@@ -3,7 +3,10 @@
 Nothing here runs the program. A script is written so simply that its summary follows from docs/reference and docs/KERNEL.md: each
 scheduled step is one event, and whoever writes the steps of a call says beside them what comes of it.
 """
+from __future__ import annotations
+
 import json
+from typing import Iterator
 
 COUNTS = ("events", "calls", "notified", "answered", "granted", "denied", "passed", "injected", "faults", "gone", "lost")
 MKNOD = {"config": {"security.syscalls.intercept.mknod": "true"}}
@@ -25,21 +28,21 @@ class Input:
         # the start and the close
         self.counts["events"] = 2
 
-    def program(self, name, *lines):
+    def program(self, name: str, *lines: str) -> None:
         self.programs[name] = lines
 
-    def task(self, name, steps=1):
+    def task(self, name: str, steps: int = 1) -> None:
         self.step(f"t {name}", steps)
 
-    def worker(self, number, steps=1):
+    def worker(self, number: int, steps: int = 1) -> None:
         self.step(f"w {number}", steps)
 
-    def step(self, actor, steps):
+    def step(self, actor: str, steps: int) -> None:
         """Lets an actor take steps. Each is one event, also where it is a skip."""
         self.schedule.append(actor if steps == 1 else f"{actor} {steps}")
         self.counts["events"] += steps
 
-    def expect(self, **counts):
+    def expect(self, **counts: int) -> None:
         """So many more of each the summary counts."""
         for name, count in counts.items():
             self.counts[name] += count
@@ -47,10 +50,10 @@ class Input:
     def steps(self):
         return self.counts["events"] - 2
 
-    def summary(self):
+    def summary(self) -> str:
         return "summary " + " ".join(f"{name}={count}" for name, count in self.counts.items())
 
-    def script(self):
+    def script(self) -> Iterator[str]:
         """The lines of the script."""
         yield from self.settings
         for name, lines in self.programs.items():
@@ -62,7 +65,7 @@ class Input:
             yield from self.schedule
             yield "end"
 
-    def written_policy(self):
+    def written_policy(self) -> str:
         return json.dumps(self.policy, separators=(",", ":"))
 
     def write(self, folder):
@@ -192,7 +195,7 @@ def crowd(tasks, calls):
     return made
 
 
-def instructions(divide):
+def instructions(divide: int) -> Input:
     """100,000 executed instructions: stores of eight bytes all over the memory, and the exit"""
     count = LIMITS["instructions"] // divide
     made = Input({})
@@ -201,7 +204,7 @@ def instructions(divide):
     return made
 
 
-def calls(divide):
+def calls(divide: int) -> Input:
     """20,000 calls, each notified and denied, in 200,000 scheduled steps. The path is empty, so that no step is needed for it"""
     count = LIMITS["calls"] // divide
     made = Input({"rules": [{"name": "no-mem", "call": "mknod", "when": {"dev": "1:1"}, "then": {"deny": "EPERM"}}]}, "notify mknod")
@@ -214,7 +217,7 @@ def calls(divide):
     return made
 
 
-def tasks_at_once(divide):
+def tasks_at_once(divide: int) -> Input:
     """4,000 tasks that live at once, all waiting in a notified call at once, and 16 workers that serve them side by side"""
     count = LIMITS["starts"] // divide
     made = Input(MKNOD, 'dir "/dev"', "notify mknod")
@@ -237,7 +240,7 @@ def tasks_at_once(divide):
     return made
 
 
-def tasks_in_turn(divide):
+def tasks_in_turn(divide: int) -> Input:
     """4,000 tasks one after another with `pidmax 2`. Each second one is killed once its notification was received, and the worker goes on
     when the next task has its number"""
     pairs = max(1, LIMITS["starts"] // 2 // divide)
@@ -266,7 +269,7 @@ def tasks_in_turn(divide):
     return made
 
 
-def tree(divide):
+def tree(divide: int) -> Input:
     """10,000 tree lines: a directory, and nodes in it whose names of 255 bytes differ at their ends. 10,000 granted calls make nodes
     there, each second one where there is one already"""
     count = max(2, MOST_TREE_LINES // divide)
@@ -289,7 +292,7 @@ def tree(divide):
     return made
 
 
-def depth(divide):
+def depth(divide: int) -> Input:
     """Programs that start one another, 64 deep, and with 4,000 tasks in all: the innermost that starts any starts 3,937, whose names have
     64 numbers. Each makes a notified call, which is passed"""
     deepest = LIMITS["depth"]
@@ -318,7 +321,7 @@ def depth(divide):
     return made
 
 
-def steps(divide):
+def steps(divide: int) -> Input:
     """200,000 scheduled steps that nearly all skip: workers with nothing to receive, a line each; a task that waits; one that isn't there,
     whose name has 64 numbers; and one that has ended"""
     count = max(40, MOST_STEPS // divide)
@@ -335,7 +338,7 @@ def steps(divide):
     return made
 
 
-def fill(divide):
+def fill(divide: int) -> Input:
     """64 MiB stored by 1,024 fills of 65,536 bytes each, and a notified call whose path has no end. The report has each byte"""
     count = LIMITS["stored"] // 65_536 // divide
     made = Input(MKNOD, "notify mknod")
@@ -348,7 +351,7 @@ def fill(divide):
     return made
 
 
-def copies(divide):
+def copies(divide: int) -> Input:
     """4,000 processes at once, each with a copy of 64 written pages and of 4,096 descriptors. Each then stores a byte in 16 pages"""
     count = LIMITS["starts"] // divide
     opened = (4_096 - 3) // divide

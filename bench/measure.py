@@ -4,6 +4,8 @@
 It ends the program after SECONDS, and gives it at most MEGABYTES of address space. It is a process of its own, since the system tells as
 the greatest memory of a program at least that of the process which started it ("floor"), and this one is small.
 """
+from __future__ import annotations
+
 import json
 import os
 import resource
@@ -22,7 +24,7 @@ def main(seconds, megabytes, *command):
     process = subprocess.Popen(command, stdin=subprocess.DEVNULL, stdout=subprocess.PIPE, stderr=subprocess.PIPE)
     floor = resource.getrusage(resource.RUSAGE_SELF).ru_maxrss
 
-    def end():
+    def end() -> None:
         over.set()
         os.kill(process.pid, 9)
 

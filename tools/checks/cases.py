@@ -3,6 +3,8 @@
 cases/README.md says what a case is. Each folder of examples/ with a policy is a case too: a play of its two files prints its report.txt.
 A case is left out by the name that a failure is told with: cases/ids-wrap.
 """
+from __future__ import annotations
+
 import os
 import re
 import resource
@@ -10,6 +12,7 @@ import subprocess
 import tempfile
 from itertools import zip_longest
 from pathlib import Path
+from typing import Any, List, Union
 
 from tools.checks import known
 from tools.checks.tallies import Tally
@@ -22,11 +25,11 @@ from tools.commands.pods import parts
 REPORT_LIMIT = 33_554_432
 
 
-def read(path, otherwise=b""):
+def read(path: str, otherwise: Union[bytes, int] = b"") -> Union[bytes, int]:
     return Path(path).read_bytes() if os.path.isfile(path) else otherwise
 
 
-def copy_cases(room):
+def copy_cases(room: str) -> None:
     """Copies the cases and examples to the room, each with its words and its output."""
     known.copied(room)
     for folder in [folder for folder, _, files in os.walk(f"{room}/examples") if "policy.json" in files]:
@@ -52,11 +55,11 @@ def run(program, folder):
         return ended.returncode, out.read(), ended.stderr or b""
 
 
-def counts(text):
+def counts(text: str) -> Any:
     return {name: int(count) for name, count in re.findall(r"(\w+)=(\d+)", text)}
 
 
-def holds(statement, lines):
+def holds(statement: str, lines: List[str]) -> bool:
     """Whether a statement of stdout.lines holds of the lines of a report."""
     key, _, text = statement.partition(": ")
     told = counts(lines[-1]) if lines else {}
@@ -76,7 +79,7 @@ def first_difference(name, wanted, got):
     return [f"{name}, line {at}: {line!r}, expected {want!r}" for at, (want, line) in both if line != want][:1]
 
 
-def reports_in(out, words):
+def reports_in(out: bytes, words: Any) -> Any:
     """The reports in what the program prints on a case's words, each with the names of its policy and its script: without the ledgers, where
     workers are replaced, and of `pod`, each container's part."""
     word, *names = words or [None]
@@ -86,17 +89,17 @@ def reports_in(out, words):
     return [(names[:2], split(out)[0])] if word in ("play", "handover", "run", "lanes") else []
 
 
-def is_by_lanes(words):
+def is_by_lanes(words: List[str]) -> bool:
     """Whether a case serves by lanes."""
     return words[:1] == ["lanes"] or words[:2] == ["pod", "lanes"]
 
 
-def is_of_requests(folder, words):
+def is_of_requests(folder: str, words: List[str]) -> bool:
     """Whether a case plays what another broker's workers ask for: then no legal history need have its report."""
     return words[:1] == ["play"] and has_requests(read(f"{folder}/{words[2]}"))
 
 
-def audit_failures(program, folder, files, report):
+def audit_failures(program: str, folder: str, files: List[str], report: bytes) -> List[Any]:
     """Whether the program takes a report that the case prints for one, with as many events as its first line says."""
     with tempfile.NamedTemporaryFile() as kept:
         kept.write(report)
@@ -130,7 +133,7 @@ def failures(program, folder):
     return found + [f"stdout: not so: {it}" for it in statements if not holds(it, lines)]
 
 
-def main():
+def main() -> bool:
     parser = ToolParser().add_program()
     parser.add_argument("left_out", metavar="LEFT-OUT", nargs="*", help="the name of a case that isn't tried")
     asked = parser.with_program()

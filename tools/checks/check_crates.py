@@ -59,7 +59,7 @@ def shown() -> Iterator[Union[Crate, Floor]]:
             yield Crate(first.strip("`"), re.findall(r"`(\w+)`", below))
 
 
-def upward(rows):
+def upward(rows: List[Any]) -> List[Any]:
     """What depends on a crate further down."""
     crates = [row for row in rows if isinstance(row, Crate)]
     place = {crate.name: number for number, crate in enumerate(crates)}
@@ -92,7 +92,7 @@ def fault_of(row, below):
     return None
 
 
-def uncarried(rows, carried):
+def uncarried(rows: List[Any], carried: List[Carried]) -> List[Any]:
     """Where one of the toolchain's crates doesn't carry what it is there for."""
     below = {row.name: row.below for row in rows if isinstance(row, Crate)}
     without = [f"{ARCHITECTURE} doesn't say what {name} carries" for name in CARRYING if all(row.carrier != name for row in carried)]

@@ -27,12 +27,14 @@ Exit status: 0, or 1 where something that isn't among the exceptions is found, a
 isn't so. The last line is
 `dead: N found, M of them excepted, and K tried alone, in FILES files of CRATES crates`.
 """
+from __future__ import annotations
+
 import os
 import re
 from collections import namedtuple
 from functools import lru_cache
 from pathlib import Path
-from typing import Dict, Tuple
+from typing import Any, Dict, FrozenSet, Iterator, List, Match, Optional, Set, Tuple
 
 from tools.commands.command_line.arguments import ToolParser
 from tools.commands.command_line.top import TOP
@@ -78,12 +80,12 @@ Definition = namedtuple("Definition", "path name line text is_public")
 
 
 @lru_cache(None)
-def text_of(path):
+def text_of(path: str) -> str:
     return (CRATES / path).read_text(encoding="utf-8")
 
 
 @lru_cache(None)
-def files(suffix, crate=""):
+def files(suffix: str, crate: str = "") -> List[str]:
     """The files of a kind, below crates/, in order; none of those that rt makes, whose folders come and go while it runs."""
     found = []
     for at, folders, names in os.walk(CRATES / crate):
@@ -93,31 +95,31 @@ def files(suffix, crate=""):
 
 
 @lru_cache(None)
-def bare(path):
+def bare(path: str) -> str:
     """A file without its comments and the insides of its strings, line for line."""
     mark = "//" if path.endswith(".rt") else "--(?= |-|$)"
     parts = rf'"(?:\\.|[^"\\\n])*"|(?:^|(?<=\s)){mark}[^\n]*'
     return re.sub(parts, lambda it: '""' if it[0].startswith('"') else "", text_of(path), flags=re.M)
 
 
-def line_of(path, at):
+def line_of(path: str, at: int) -> int:
     return bare(path).count("\n", 0, at) + 1
 
 
-def crates():
+def crates() -> Dict[str, List[str]]:
     """The crates of crates.txt, each with what it stands on."""
     listed = re.findall(r"^(\w+)([^#\n]*):([^#\n]*)", (TOP / "crates.txt").read_text(encoding="utf-8"), re.M)
     return {name: below.split() for name, _, below in listed}
 
 
-def found_in(path, kind, line, name, why):
+def found_in(path: str, kind: str, line: int, name: str, why: str) -> Found:
     return Found(kind, path.partition("/")[0], f"crates/{path}", line, name, why)
 
 
 # ---- Imports
 
 
-def ghost_imports(path):
+def ghost_imports(path: str) -> Iterator[Import]:
     """What a file imports of specifications and proofs."""
     pattern = ANTT_USE if path.endswith(".antt") else GHOST_USE
     for it in pattern.finditer(bare(path)):
@@ -129,7 +131,7 @@ def ghost_imports(path):
             yield Import(here or there, it["module"], there, line, is_passed_on)
 
 
-def leaves(text):
+def leaves(text: str) -> Iterator[Tuple[str, str]]:
     """The names that a Rust `use` brings in: pairs of the name here and the whole path."""
     text = text.strip()
     before, brace, inside = text.partition("{")
@@ -147,13 +149,13 @@ def leaves(text):
             part += sign
 
 
-def rust_imports(path):
+def rust_imports(path: str) -> Iterator[Import]:
     for it in RUST_USE.finditer(bare(path)):
         for name, whole in leaves(it["path"]):
             yield Import(name, whole.rpartition("::")[0], whole.rpartition("::")[2], line_of(path, it.start()), bool(it["pub"]))
 
 
-def without_imports(path):
+def without_imports(path: str) -> str:
     """A file's text without comments, strings and imports, line for line."""
     text = bare(path)
     for pattern in (ANTT_USE, GHOST_USE, RUST_USE) if path.endswith(".rt") else (ANTT_USE,):
@@ -202,12 +204,12 @@ def known(path):
 
 
 @lru_cache(None)
-def brought(path):
+def brought(path: str) -> Dict[str, Import]:
     return {it.name: it for it in ghost_imports(path)}
 
 
 @lru_cache(None)
-def path_of(module):
+def path_of(module: str) -> Optional[str]:
     """The file of a module; None where it is the toolchain's, or one that the check makes."""
     crate, _, rest = module.removeprefix("Rattle.").partition(".")
     path = f"{crate}/{rest.replace('.', '/')}.antt"
@@ -219,7 +221,7 @@ TAKEN = set()
 
 
 @lru_cache(None)
-def located(module, name):
+def located(module: str, name: str) -> Tuple[Definition, ...]:
     """The definitions that a name of a module stands for."""
     path = path_of(module)
     if path is None:
@@ -233,7 +235,7 @@ def located(module, name):
     return located(it.module, it.original) if it.original else ()
 
 
-def led_to(path, text):
+def led_to(path: str, text: str) -> Iterator[Definition]:
     """The definitions that the words of a text of a file lead to."""
     for word in set(WORD.findall(text)):
         first, *rest = word.split(".")
@@ -254,7 +256,7 @@ def led_to(path, text):
                 yield from found
 
 
-def cited_by_rust(path):
+def cited_by_rust(path: str) -> Iterator[Definition]:
     """The definitions that a .rt file leads to: by its contracts, and by the lemmas that it names for the search."""
     text = without_imports(path)
     yield from led_to(path, re.sub(r"::", ".", re.sub(r"[&|!<>*]", " ", text)))
@@ -264,7 +266,7 @@ def cited_by_rust(path):
             yield from located(f"Rattle.{crate}.{folder}.{module.replace('::', '.')}", spelled)
 
 
-def used_definitions():
+def used_definitions() -> Set[Definition]:
     """Whatever the .rt files and the answers lead to."""
     todo = [it for path in files(".rt") for it in cited_by_rust(path)]
     for path in files(".antt"):
@@ -302,7 +304,7 @@ def dead_definitions():
 # ---- Imports that nothing uses
 
 
-def has_word(text, name):
+def has_word(text: str, name: str) -> bool:
     if "◌" in name:
         return all(core in text for core in name.split("◌") if core)
     if name in ("[]", "∷"):
@@ -320,7 +322,7 @@ def homes_of_traits():
     return found
 
 
-def dead_imports():
+def dead_imports() -> Iterator[Any]:
     traits = TRAITS | homes_of_traits().keys()
     for path in files(".antt") + files(".rt"):
         text = without_imports(path)
@@ -352,13 +354,13 @@ def end_of(path, at):
     return found.end() if found else len(bare(path))
 
 
-def is_law(path, at):
+def is_law(path: str, at: int) -> bool:
     """Whether a function has nothing between its braces but laws that it cites: it is a law, or shows a fact to the prover."""
     return re.search(r"\{(?:\s*[\w:]+\(\);)*\s*\}\Z", bare(path)[at:end_of(path, at)]) is not None
 
 
 @lru_cache(None)
-def code(path):
+def code(path: str) -> str:
     """A .rt file without imports and contracts."""
     text, at = without_imports(path), 0
     while True:
@@ -373,18 +375,18 @@ def code(path):
 
 
 @lru_cache(None)
-def names_of(path):
+def names_of(path: str) -> FrozenSet[str]:
     return frozenset(re.findall(r"\w+", bare(path)))
 
 
-def owner_of(path, at):
+def owner_of(path: str, at: int) -> Optional[str]:
     """The type in whose `impl` a function stands; None where it stands in none."""
     before = [it["type"] for it in OWNER.finditer(bare(path), 0, at)]
     return before[-1] if before and bare(path)[at:at + 1] == " " else None
 
 
 @lru_cache(None)
-def above(crate):
+def above(crate: str) -> Set[str]:
     """The crates that stand on this one, and it itself."""
     found, listed = {crate}, crates()
     while True:
@@ -394,7 +396,7 @@ def above(crate):
         found |= more
 
 
-def users_of(path, it):
+def users_of(path: str, it: Match[Any]) -> Iterator[str]:
     """The files that call a public function: code, tests and must-fail edits. A method counts as called wherever one of its name is."""
     name, owner, crate = it["name"], owner_of(path, it.start()), path.split("/")[0]
     if owner is None:
@@ -416,7 +418,7 @@ def users_of(path, it):
             yield other
 
 
-def is_test(path):
+def is_test(path: str) -> bool:
     return path.startswith("trials_")
 
 
@@ -465,13 +467,13 @@ def missing_calls():
             yield f"no decision is titled: {title}"
 
 
-def is_offered(path, it):
+def is_offered(path: str, it: Match[Any]) -> bool:
     """Whether a function stands for users of its crate."""
     crate, owner = path.split("/")[0], owner_of(path, it.start())
     return (f"{owner}::{it['name']}" if owner else it["name"]) in public_calls()[0].get(crate, ())
 
 
-def dead_functions():
+def dead_functions() -> Iterator[Found]:
     header = "".join(path.read_text(encoding="utf-8") for path in (TOP / "include").glob("*.h"))
     for path in files(".rt"):
         for it in FUNCTION.finditer(bare(path)):
@@ -496,17 +498,17 @@ Holder = namedtuple("Holder", "crate path name type fields types")
 Field = namedtuple("Field", "name line types")
 
 
-def fields_in(path, body, at):
+def fields_in(path: str, body: str, at: int) -> List[Field]:
     """The fields that a body has, whose text begins there. One that only names a type takes no room."""
     return [Field(it["name"], line_of(path, at + it.start("name")), words_in(it["type"])) for it in FIELD.finditer(body) if "PhantomData" not in it["type"]]
 
 
-def words_in(text):
+def words_in(text: str) -> FrozenSet[str]:
     return frozenset(re.findall(r"\w+", text))
 
 
 @lru_cache(None)
-def holders():
+def holders() -> List[Holder]:
     """The types of the repository, each variant with named fields by itself."""
     found = []
     for path in files(".rt"):
@@ -522,7 +524,7 @@ def holders():
 
 
 @lru_cache(None)
-def within(crate, name):
+def within(crate: str, name: str) -> Set[Tuple[str, str]]:
     """The types that have a value of this one within, and it itself: pairs of the crate and the name."""
     found = {(crate, name)}
     while True:
@@ -533,7 +535,7 @@ def within(crate, name):
 
 
 @lru_cache(None)
-def types_of(field):
+def types_of(field: str) -> FrozenSet[str]:
     """The words in the types of all fields of a name."""
     return frozenset().union(*(of.types for it in holders() for of in it.fields if of.name == field))
 
@@ -552,7 +554,7 @@ def readings():
     return found
 
 
-def bound(text):
+def bound(text: str) -> Iterator[Tuple[str, str]]:
     """What the patterns of a text bind: pairs of the type or variant, and the field."""
     for it in re.finditer(r"\b([A-Z]\w*) \{([^{}]*)\}(?P<behind>[\s)\],]*(?:=>|=(?!=)|\||if\b|in\b)?)", text):
         is_pattern = re.search(r"(?:=>|=|\||if|in)$", it["behind"]) or re.search(r"\.\.\s*$", it[2])
@@ -562,7 +564,7 @@ def bound(text):
                 yield it[1], name.strip().removeprefix("ref ").removeprefix("mut ")
 
 
-def is_read(holder, field):
+def is_read(holder: Holder, field: Field) -> bool:
     # (a definition's pattern has the fields of a variant by their places)
     if holder.name != holder.type and any(holder.name in names_of(path) for crate in above(holder.crate) for path in files(".antt", crate)):
         return True
@@ -579,7 +581,7 @@ def is_read(holder, field):
     return False
 
 
-def dead_fields():
+def dead_fields() -> Iterator[Any]:
     for holder in holders():
         for field in holder.fields if not is_test(holder.path) else ():
             if not is_read(holder, field):
@@ -590,7 +592,7 @@ def dead_fields():
 # ---- Dependencies
 
 
-def dead_dependencies():
+def dead_dependencies() -> Iterator[Any]:
     listed = (TOP / "crates.txt").read_text(encoding="utf-8").split("\n")
     for crate, below in crates().items():
         line = next(number for number, text in enumerate(listed, 1) if re.match(rf"{crate}\b", text))
@@ -600,12 +602,12 @@ def dead_dependencies():
                 yield Found("dependency", crate, "crates.txt", line, name, f"no file of {crate} names it")
 
 
-def key(it):
+def key(it: Found) -> Tuple[str, str, str]:
     """What an exception names."""
     return it.kind, it.crate if it.kind == "dependency" else it.path, it.name
 
 
-def main():
+def main() -> int:
     parser = ToolParser()
     parser.add_argument("--report", action="store_true")
     parser.add_argument("crates", nargs="*")

@@ -7,6 +7,8 @@ PROGRAM is the one that ./broker runs, if none is named.
 
 Exit status: 0 where all are equal, else 1. The last line is `explain: N passed, N failed`.
 """
+from __future__ import annotations
+
 import os
 import subprocess
 import tempfile
@@ -48,7 +50,7 @@ def shown(one, other):
     return f"status {one[0]} {one[2].decode('ascii')!r} {line!r}"
 
 
-def main():
+def main() -> bool:
     asked = TrialParser().add_draws(200).add_program().with_program()
     numbers = range(asked.first, asked.first + asked.count)
     with ThreadPoolExecutor(os.cpu_count()) as pool:

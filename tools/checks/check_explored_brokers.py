@@ -14,6 +14,8 @@ libseccomp's header; and one in Go.
 
 Exit status: 0 where all passed, else 1. The last line is `explored-brokers: N passed, N failed`.
 """
+from __future__ import annotations
+
 import importlib.util
 import multiprocessing
 import os
@@ -24,7 +26,7 @@ import subprocess
 import sys
 import tempfile
 from pathlib import Path
-from typing import NamedTuple
+from typing import Any, List, NamedTuple, Tuple
 
 from tools.checks.outside import module_at
 from tools.checks.tallies import Tally, ended_of
@@ -136,7 +138,7 @@ ODD = {
 # ---- the brokers of this process
 
 
-def path_of(name):
+def path_of(name: str) -> Path:
     return next(path for part in ("wrong", "right", "odd") for path in [BROKERS / part / f"{name}.py"] if path.is_file())
 
 
@@ -182,7 +184,7 @@ def right_trial(broker, files, delays):
     return f"there is told: {sorted(found)}, {troubles}" if found or troubles else None
 
 
-def clause_trial(shown):
+def clause_trial(shown: Any) -> Tuple[str, Any]:
     """A broker of clauses.py, and the right one over the same script."""
     wrong = wrong_trial(shown, DEFINED) or right_trial(clauses.Right, files_of(shown.script, DEFINED), shown.delays)
     return f"{shown.broker.__name__} with {shown.script}", wrong
@@ -192,7 +194,7 @@ def slip_trial(slip):
     return f"{slip.broker.__name__} with {slip.script}", wrong_trial(slip, BROKERS)
 
 
-def style_trial(broker):
+def style_trial(broker: Any) -> Tuple[str, Any]:
     """A right broker in a style of its own, over each script."""
     wrong = (right_trial(broker, files_of(script), STYLE_DELAYS) for script in SCRIPTS)
     return broker.__name__, "; ".join(f"with {script}, {fault}" for script, fault in zip(SCRIPTS, wrong) if fault) or None
@@ -262,12 +264,12 @@ def odd_trial(name):
     return f"an odd broker, {name}", ended.unless(ended.status == status and f"\n{told}" in ended.out)
 
 
-def has_seccomp_header():
+def has_seccomp_header() -> bool:
     tried = subprocess.run(["cc", "-E", "-include", "seccomp.h", "-x", "c", "/dev/null"], stdin=subprocess.DEVNULL, capture_output=True)
     return tried.returncode == 0
 
 
-def agents():
+def agents() -> List[str]:
     """The agents that can be built here."""
     left = {}
     if not shutil.which("cc"):
@@ -384,7 +386,7 @@ def differing(asked):
     return name, ended.unless(ended.status == 12 and f"\n{wanted}" in ended.out and " findings=0 " in ended.out)
 
 
-def call(task):
+def call(task: Any) -> Tuple[str, Any]:
     """Calls a function in a process of the pool."""
     function, argument = task
     return function(argument)

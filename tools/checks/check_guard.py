@@ -13,12 +13,16 @@ NAMEs are acts and calls that are tried alone. It needs cc; without it, that is 
 
 Exit status: 0 where all passed, else 1. The last line is `guard: N passed, N failed`.
 """
+from __future__ import annotations
+
 import multiprocessing
 import os
 import shutil
 import subprocess
 import tempfile
+from argparse import Namespace
 from pathlib import Path
+from typing import Any, List, Tuple
 
 from tools.checks.guarding import acts, calls, ends, takes
 from tools.checks.guarding.trials import CPLUSPLUS, make_programs
@@ -59,7 +63,7 @@ def refusal_trial(programs, command):
 # ---- acts and calls
 
 
-def namespaces():
+def namespaces() -> Any:
     """The words that start a command in namespaces of its own, or None where the machine gives none."""
     for words in (NAMESPACES, [*NAMESPACES, "--user", "--map-root-user"]):
         if shutil.which(words[0]) and subprocess.run([*words, "mount", "-t", "tmpfs", "none", "/tmp"], stdin=subprocess.DEVNULL, capture_output=True, check=False).returncode == 0:
@@ -67,39 +71,39 @@ def namespaces():
     return None
 
 
-def act_trial(programs, room, name, has_namespaces):
+def act_trial(programs: Path, room: Path, name: str, has_namespaces: bool) -> Tuple[str, Any]:
     return f"the act {name}", acts.wrong_with(name, programs, room / f"act-{name}", has_namespaces)
 
 
-def call_trial(programs, room, name):
+def call_trial(programs: Path, room: Path, name: str) -> Tuple[str, Any]:
     return f"the call {name}", calls.wrong_with(name, programs, room / f"call-{name}")
 
 
-def take_trial(programs, room, name):
+def take_trial(programs: Path, room: Path, name: str) -> Tuple[str, Any]:
     return f"what takes too much of {name}", takes.wrong_with(name, programs, room / f"take-{name}")
 
 
-def end_trial(programs, room, number):
+def end_trial(programs: Path, room: Path, number: int) -> Tuple[str, Any]:
     return f"the end {number}", ends.wrong_with(number, programs, room / f"end-{number}")
 
 
-def run_trial(trial):
+def run_trial(trial: Tuple[Any, ...]) -> Tuple[str, Any]:
     function, *arguments = trial
     return function(*arguments)
 
 
-def run_all(count, trials, jobs):
+def run_all(count: Tally, trials: List[Tuple[Any, ...]], jobs: int) -> None:
     with multiprocessing.get_context("fork").Pool(jobs) as pool:
         for name, wrong in pool.imap_unordered(run_trial, trials, 1):
             count.note(name, wrong)
 
 
-def try_acts(count, programs, names, jobs, has_namespaces):
+def try_acts(count: Tally, programs: Path, names: List[str], jobs: int, has_namespaces: bool) -> None:
     with tempfile.TemporaryDirectory(prefix="check-guard-acts-") as room:
         run_all(count, [(act_trial, programs, Path(room), name, has_namespaces) for name in names], jobs)
 
 
-def try_acts_inside(count, programs, names, jobs):
+def try_acts_inside(count: Tally, programs: Path, names: List[str], jobs: int) -> None:
     """Runs the acts in namespaces of their own, by this program, and counts what they come to."""
     words = namespaces()
     if words is None:
@@ -118,14 +122,14 @@ def try_acts_inside(count, programs, names, jobs):
     count.failed += failed
 
 
-def inside(programs, names, jobs):
+def inside(programs: Path, names: List[str], jobs: int) -> None:
     """In the namespaces, of which nothing is left."""
     count = Tally("guard")
     try_acts(count, programs, names, jobs, True)
     print(f"inside: {count.passed} passed, {count.failed} failed")
 
 
-def asked():
+def asked() -> Namespace:
     parser = ToolParser()
     parser.add_argument("--jobs", metavar="N", type=int, default=os.cpu_count(), help="so many trials at once; without it as many as there are processors")
     parser.add_argument("--inside", metavar="PROGRAMS", type=Path, help="for this tool alone: it runs the acts, in namespaces that it was started in")
@@ -133,7 +137,7 @@ def asked():
     return parser.parse_args()
 
 
-def main():
+def main() -> int:
     words = asked()
     if not shutil.which("cc"):
         print("guard: cc isn't on the PATH, so nothing is tried")

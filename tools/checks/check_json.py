@@ -8,10 +8,13 @@ their lines are no others; the variable DIVIDE has another number.
 PROGRAM is the program that is run; without it, the one that ./broker runs. Exit status: 0 where all is so, else 1. The last line is
 `json: N passed, N failed`.
 """
+from __future__ import annotations
+
 import json
 import subprocess
 import tempfile
 from pathlib import Path
+from typing import Any, Iterator, List, Tuple
 
 from tools.checks import known
 from tools.checks.json_schemas import Schemas, undetected
@@ -37,13 +40,13 @@ NOT_OF_WORDS = {"report", "test", "explore-broker"}
 FORMS = TOP / "tests/forms"
 
 
-def status_of(folder):
+def status_of(folder: Path) -> int:
     """The exit status that a case should have."""
     stated = folder / "status"
     return int(stated.read_text(encoding="ascii")) if stated.exists() else 0
 
 
-def rows(room):
+def rows(room: str) -> Iterator[Any]:
     """A folder and the words that are run in it, each with a name."""
     for args in sorted(Path(room).glob("cases/**/args")):
         words = args.read_text(encoding="utf-8").splitlines()
@@ -54,7 +57,7 @@ def rows(room):
             yield f"{report.parent.relative_to(room)}: {words[0]}", report.parent, words
 
 
-def faults(schemas, word, output):
+def faults(schemas: Schemas, word: str, output: bytes) -> List[Any]:
     """What is wrong with the document of an output, as texts."""
     try:
         found = json.loads(json.dumps(document(word, output)))
@@ -73,11 +76,11 @@ def ended_of(words, folder):
         return subprocess.run(words, cwd=folder, stdin=requests, stdout=subprocess.PIPE, stderr=subprocess.PIPE)
 
 
-def command(program, folder, *words):
+def command(program: str, folder: str, *words: str) -> Any:
     return ended_of([TOP / "tools/commands/json", "--program", program, *words], folder)
 
 
-def command_faults(program, folder):
+def command_faults(program: str, folder: str) -> Iterator[Any]:
     """Whether the command prints the document, and ends as the program does."""
     for words in (["play", *FILES], ["play", *FILES, "more"], ["play", "none.json", "script.txt"], ["audit-check", *FILES, "script.txt"], ["step", *FILES], ["step", "script.txt", "script.txt"], ["stress", "7", "3"]):
         plain = ended_of([program, *words], folder)
@@ -90,7 +93,7 @@ def command_faults(program, folder):
         yield f"json pley: status {ended.returncode}, {ended.stderr!r}"
 
 
-def tried(program, room):
+def tried(program: str, room: str) -> Iterator[Tuple[str, List[Any]]]:
     """What was tried: a name, and what is wrong."""
     schemas = Schemas(TOP / "docs/schema")
     yield "a schema for each word", sorted(set(WORDS) ^ (set(schemas.read) - NOT_OF_WORDS))
@@ -108,7 +111,7 @@ def tried(program, room):
     yield "the command", list(command_faults(program, f"{room}/{DAMAGED}"))
 
 
-def main():
+def main() -> bool:
     program = arguments.program_asked()
     with tempfile.TemporaryDirectory(prefix="check-json-") as room:
         known.copied(room, DIVIDE="100")

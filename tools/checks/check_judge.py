@@ -23,11 +23,15 @@ nothing.
 Exit status: 0 where all passed, else 1, also where PROGRAM has no word `judge`. The last line is `judge: N passed, N failed`; above it
 stands how many histories have kept each clause, or broken which.
 """
+from __future__ import annotations
+
 import re
 import subprocess
 import tempfile
+from argparse import Namespace
 from collections import Counter
 from pathlib import Path
+from typing import List, Optional, Tuple
 
 from tools.checks.tallies import Tally
 from tools.commands.command_line import arguments
@@ -67,7 +71,7 @@ REFUSED = (
 # ---- the sessions of tests/judged
 
 
-def stored_sessions():
+def stored_sessions() -> List[Tuple[Path, str]]:
     """The paths of the sessions, with their texts."""
     return [(path, path.read_text(encoding="latin-1")) for folder in (JUDGED, DEFINED) for path in sorted((folder / "sessions").iterdir())]
 
@@ -101,7 +105,7 @@ def script_fault(program, files, follower):
         return judgement_fault(program, files, follower.session.script().encode("latin-1"), follower.judge.text(), room)
 
 
-def write_sessions():
+def write_sessions() -> None:
     for path, text in stored_sessions():
         follower = Follower(*read_files(*files_of(path, text)))
         requests = [exchange.request for exchange in read_session(text.encode("latin-1"))]
@@ -111,7 +115,7 @@ def write_sessions():
             place_of(path).write_bytes(picture_of(follower))
 
 
-def clause_named(variant):
+def clause_named(variant: str) -> str:
     """The name of a clause of the definition in the judge."""
     return "no-call" if variant.endswith("WithoutCall") else re.sub(r"(?<!^)(?=[A-Z])", "-", variant).lower()
 
@@ -127,7 +131,7 @@ def try_definition(count):
         count.note(f"{name} as it is proved", None if right and over[1] == script else f"{path.relative_to(TOP)} has another verdict or script")
 
 
-def try_refusals(count):
+def try_refusals(count: Tally) -> None:
     for words, status, said in REFUSED:
         ended = subprocess.run([TOP / "tools/references/reference-judge", *words], cwd=JUDGED, stdin=subprocess.DEVNULL, capture_output=True, text=True)
         right = ended.returncode == status and ended.stderr.startswith(said) and bool(ended.stderr) == bool(said)
@@ -137,13 +141,13 @@ def try_refusals(count):
 # ---- histories
 
 
-def stored_report(folder):
+def stored_report(folder: str) -> Optional[str]:
     found = next((path for name in ("stdout", "report.txt") for path in [TOP / folder / name] if path.is_file()), None)
     text = found.read_text("latin-1").partition("handovers ")[0] if found else ""
     return text if text.startswith("journal ") and "\nsummary " in text else None
 
 
-def try_reports(count, known):
+def try_reports(count: Tally, known: List[Tuple[str, Files]]) -> None:
     for folder, files in known:
         report, session = stored_report(folder), files.session()
         if report is not None:
@@ -161,7 +165,7 @@ def try_drawn(count, name, trials, asked):
     return judged
 
 
-def try_histories(count, program, asked):
+def try_histories(count: Tally, program: str, asked: Namespace) -> None:
     judged = try_drawn(count, "of free workers", free_trials(program, asked.seed, asked.free, asked.jobs), asked)
     if asked.free >= ENOUGH:
         unmet = clauses_unmet(judged)
@@ -174,7 +178,7 @@ def try_histories(count, program, asked):
 # ---- decisions
 
 
-def try_decisions(count, program, known):
+def try_decisions(count: Tally, program: str, known: List[Tuple[str, Files]]) -> None:
     policies = {Path(files.policy).read_bytes(): (folder, files) for folder, files in known}
     for number, (folder, files) in enumerate(policies.values()):
         count.note(f"the rules of {folder}", "\n".join(differences(program, files.policy, files.session().rules, number)) or None)

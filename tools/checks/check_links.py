@@ -14,7 +14,7 @@ import os
 import re
 import subprocess
 from pathlib import Path
-from typing import List
+from typing import Any, Iterator, List, Set, Tuple
 
 from tools.checks.tallies import Tally
 from tools.commands.command_line.arguments import ToolParser
@@ -69,13 +69,13 @@ def fault(path, link):
     return None
 
 
-def linked_pages(path):
+def linked_pages(path: Path) -> Set[Path]:
     """The documents to which a document links."""
     targets = (Path(os.path.normpath(path.parent / link.partition("#")[0])) for link in links(path))
     return {target for target in targets if target.suffix == ".md" and target.is_file()}
 
 
-def reached_from_readme():
+def reached_from_readme() -> Iterator[Tuple[Path, str, Any]]:
     """Each document, with what is wrong if no links lead to it from README."""
     reached, ahead = set(), {TOP / "README.md"}
     while ahead:
@@ -85,7 +85,7 @@ def reached_from_readme():
         yield page, "the page", None if page in reached else "isn't reached from README"
 
 
-def rows_of_tools():
+def rows_of_tools() -> Iterator[Tuple[Path, str, Any]]:
     """The programs, files and folders in those of tools/ and in bench/, and the names in the first cells of tools/README.md: each with what is wrong with it."""
     page = TOP / "tools/README.md"
     stated = set(re.findall(r"^\| `([^`/]+)`(?: of `bench/`)? \|", page.read_text(encoding="utf-8"), re.M))

@@ -9,6 +9,8 @@ leads to. `--unshown` writes that file.
 PROGRAM is the program that is asked; without it, the one that ./broker runs. Exit status: 0 where all is so, else 1. The last line is
 `messages: N passed, N failed`.
 """
+from __future__ import annotations
+
 import ast
 import os
 import shutil
@@ -18,6 +20,7 @@ import tempfile
 from concurrent.futures import ThreadPoolExecutor
 from difflib import unified_diff
 from pathlib import Path
+from typing import Any, Iterator, List, Tuple
 
 from tools.checks.outputs import on_terminal
 from tools.checks.tallies import Tally
@@ -51,7 +54,7 @@ ASKED = (("report", entry_of("audit-check"), ("policy", "script", "report")), ("
          ("policy", entry_of("play"), ("policy", "script")))
 
 
-def played(program, folder):
+def played(program: str, folder: str) -> Tuple[int, str, List[str]]:
     """What is said where the files of a folder are played, calls there explained, or a report checked: the status, the program's own line, and what is added."""
     entry, names = next((entry, [FILES[it] for it in kinds]) for kind, entry, kinds in ASKED if Path(folder, FILES[kind]).exists())
     ended = subprocess.run([program, entry["word"], *names], cwd=folder, stdin=subprocess.DEVNULL, stdout=subprocess.DEVNULL, stderr=subprocess.PIPE)
@@ -60,12 +63,12 @@ def played(program, folder):
     return ended.returncode, line, [it.replace(f"{folder}/", "", 1) for it in told]
 
 
-def linted(program, folder):
+def linted(program: str, folder: str) -> Tuple[int, str]:
     ended = subprocess.run([TOP / "tools/commands/lint-script", "--program", program, FILES["script"]], cwd=folder, stdin=subprocess.DEVNULL, capture_output=True)
     return ended.returncode, ended.stdout.decode("utf-8", "replace")
 
 
-def mistake(program, path):
+def mistake(program: str, path: Path) -> str:
     """What is wrong with the message of a mistake, as a text; empty where nothing is."""
     kind, statuses = FOLDERS[path.parent.name]
     content, mark, wanted = path.read_bytes().rpartition(MARK)
@@ -85,7 +88,7 @@ def mistake(program, path):
     return "\n".join(unified_diff(wanted.decode("utf-8").splitlines(), said.splitlines(), "expected", "said", lineterm="", n=1))
 
 
-def refusals(room):
+def refusals(room: str) -> List[str]:
     """The folders of the refusals of cases/, which their `make` writes."""
     for name in REFUSALS:
         shutil.copytree(TOP / "cases" / name, f"{room}/{name}")
@@ -93,7 +96,7 @@ def refusals(room):
     return sorted(str(path.parent) for path in Path(room).glob("*/*/args"))
 
 
-def without_cure(program, folder):
+def without_cure(program: str, folder: str) -> str:
     """What is wrong with the message of a refusal of cases/; empty where it has a cure."""
     _, line, told = played(program, folder)
     return "" if any(it.startswith("help: ") for it in told) else "\n".join([line, *told, "(no cure)"])
@@ -105,18 +108,18 @@ def said_on_terminal(words, folder, cut_at=None):
     return status, output, said.decode("utf-8", "replace").replace("\r\n", "\n")
 
 
-def of_program(said):
+def of_program(said: str) -> List[str]:
     """What is said without the command's own lines, which tell of a trial build."""
     return [line for line in said.splitlines() if not line.startswith("broker: ")]
 
 
-def command_faults(program, folder):
+def command_faults(program: str, folder: str) -> Iterator[Any]:
     """What is wrong with what the command says of a refused policy and of a good play, with a terminal, without one, and where its own line alone is asked for."""
     Path(folder, "policy.json").write_bytes(b'{"rule": []}\n')
     Path(folder, "good.json").write_bytes(PLAIN["policy"])
     Path(folder, "script.txt").write_bytes(PLAIN["script"])
     for policy, status in (("policy.json", 4), ("good.json", 0)):
-        def without_terminal(*options, **variables):
+        def without_terminal(*options: str, **variables: str) -> subprocess.CompletedProcess[Any]:
             return subprocess.run([*OVER, program, "play", *options, policy, "script.txt"], cwd=folder, stdin=subprocess.DEVNULL, capture_output=True, text=True, env={**os.environ, **variables})
 
         plain, told = without_terminal("--plain"), without_terminal()
@@ -172,7 +175,7 @@ def file_faults(program, folder):
             yield f"{' '.join(words)}: {said}"
 
 
-def exploration_faults(folder):
+def exploration_faults(folder: str) -> Iterator[Any]:
     """What is wrong with an exploration on a terminal that is interrupted once a smaller bound has ended."""
     slow = Path(folder, "slow")
     slow.write_text(SLOW)
@@ -182,18 +185,18 @@ def exploration_faults(folder):
         yield f"an interrupted exploration: status {status}, {said!r}, output {output!r}"
 
 
-def words_of(text):
+def words_of(text: str) -> str:
     """A text with single blanks, as it is the same in each width."""
     return " ".join(text.split())
 
 
-def is_said(node):
+def is_said(node: Any) -> bool:
     """Whether a part of a module can have texts that are said: documentation and patterns have none."""
     is_pattern = isinstance(node, ast.Call) and isinstance(node.func, ast.Attribute) and getattr(node.func.value, "id", None) == "re"
     return not is_pattern and not (isinstance(node, ast.Expr) and isinstance(node.value, ast.Constant))
 
 
-def texts_in(node):
+def texts_in(node: Any) -> Iterator[str]:
     """The texts in a part of a module, of formatted ones each part."""
     if isinstance(node, ast.Constant) and isinstance(node.value, str):
         yield words_of(node.value)
@@ -210,13 +213,13 @@ def unshown():
     return sorted(it for it in texts if " " in it and len(it) >= LEAST and it not in shown)
 
 
-def text_faults():
+def text_faults() -> str:
     """What differs between the texts that no mistake shows and those that are known for that."""
     known = UNSHOWN.read_text(encoding="utf-8").splitlines()
     return "\n".join(unified_diff(known, unshown(), "mistakes/unshown.txt", "texts that no mistake shows", lineterm="", n=0))
 
 
-def tried(program, room):
+def tried(program: str, room: str) -> Iterator[Tuple[str, str]]:
     """What was tried: a name, and what is wrong."""
     yield "texts that no mistake shows", text_faults()
     paths = sorted(path for folder in FOLDERS for path in (TOP / "mistakes" / folder).glob("*.txt"))

@@ -7,6 +7,8 @@ that apt knows, and kept in ~/.cache/seccomp_broker.
 
 Exit status: 0 where nothing failed, else 1. The last line is `package: N passed, N failed`, with what wasn't tried.
 """
+from __future__ import annotations
+
 import filecmp
 import glob
 import gzip
@@ -18,6 +20,7 @@ import subprocess
 import sys
 import tempfile
 import time
+from typing import Any, Callable, Dict, Iterator, Optional
 
 from tools.commands.command_line import arguments, place, table
 from tools.commands.command_line.top import TOP
@@ -42,7 +45,7 @@ autoload -Uz compinit && compinit -D -u && [ "$_comps[seccomp-broker]" = _seccom
 COMPILE = "eval cc -std=c11 -Wall -Wextra -Werror -o '\"$2/policy_test\"' '\"$1/c/policy_test.c\"' \"$(pkg-config --cflags --libs seccomp_broker)\" && \"$2/policy_test\""
 
 
-def text_of(path):
+def text_of(path: str) -> str:
     with open(path, encoding="utf-8") as file:
         return file.read()
 
@@ -64,11 +67,11 @@ def made(trials, room):
     return f"{room}/once"
 
 
-def one(folder, pattern):
+def one(folder: str, pattern: str) -> Optional[str]:
     return next(iter(sorted(glob.glob(f"{folder}/{pattern}"))), None)
 
 
-def looked_through(trials, folder):
+def looked_through(trials: Trials, folder: str) -> None:
     """What Debian's and others' tools say of the packages, the man pages and the scripts."""
     packages = sorted(glob.glob(f"{folder}/*.deb"))
     if packages and trials.has("lintian", "lintian"):
@@ -81,7 +84,7 @@ def looked_through(trials, folder):
         trials.check("shellcheck of all shell scripts", ended.status == 0, ended)
 
 
-def shell_scripts():
+def shell_scripts() -> Iterator[str]:
     """The repository's scripts for sh and bash, by their first lines."""
     for folder in (".ci", "bench", "cases", "examples", "tools"):
         for at, _, names in os.walk(f"{TOP}/{folder}"):
@@ -134,7 +137,7 @@ def snapshot(folder):
     return {os.path.relpath(f"{at}/{name}", folder) for at, folders, names in os.walk(folder) for name in [*folders, *names]}
 
 
-def command_tried(trials, run, share, name):
+def command_tried(trials: Trials, run: Callable[..., Any], share: str, name: str) -> None:
     """The command does what it is for. `run` runs it with words, and `share` is where the files are that come with it."""
     policy, script = f"{share}/{FIRST}/policy.json", f"{share}/{FIRST}/script.txt"
     report = run("play", policy, script)
@@ -166,12 +169,12 @@ def command_tried(trials, run, share, name):
     trials.check(f"{name}: --version", version.status == 0 and known[:2] == wanted and "\ncommit: " in version.out, version)
 
 
-def stated_proof():
+def stated_proof() -> str:
     """Whether what is packaged is proved, as --version says it."""
     return "yes" if place.said_by(f"{TOP}/tools/commands/program") == f"{TOP}/crates/seccomp_broker/out/seccomp_broker" else "no: this is a trial build"
 
 
-def stated_version():
+def stated_version() -> str:
     return text_of(f"{TOP}/VERSION").strip() + ("" if stated_proof() == "yes" else "-unproved")
 
 
@@ -200,7 +203,7 @@ def playground_tried(trials, words, environment, user, name):
     trials.check(f"{name}: playground", line.startswith("playground: http://127.0.0.1:") and kind in line, line)
 
 
-def users_path():
+def users_path() -> str:
     """The system's path, and Python's folder where that isn't on it."""
     return PATH if shutil.which("python3", path=PATH) else f"{os.path.dirname(sys.executable)}:{PATH}"
 
@@ -219,7 +222,7 @@ def tarball_tried(trials, folder, room):
         user = None
     before = snapshot(top)
 
-    def run(*words, data=None):
+    def run(*words: str, data: Optional[bytes] = None) -> Ended:
         return Ended([f"{top}/bin/seccomp-broker", *words], folder="/", environment=environment, user=user, data=data)
 
     command_tried(trials, run, f"{top}/share/seccomp-broker", "the tarball")
@@ -253,7 +256,7 @@ def own_broker_tried(trials, top, room):
     trials.check("a broker in Python over the tarball", ended.status == 0 and "OK" in ended.said, ended)
 
 
-def as_it_is_tried(trials, room, environment):
+def as_it_is_tried(trials: Trials, room: str, environment: Dict[str, str]) -> None:
     """A broker as it is, which is explored with the library that the tarball's command makes."""
     made = Ended(["seccomp-broker", "make-shim", f"{room}/shim.so"], environment=environment)
     built = Ended(["cc", "-o", f"{room}/agent", f"{TOP}/tests/brokers/agents/agent.c"], environment=environment)
@@ -409,7 +412,7 @@ def checkout_tried(trials, top, room):
     return None
 
 
-def main():
+def main() -> int:
     arguments.none()
     trials = Trials()
     with tempfile.TemporaryDirectory(prefix="check-package-") as room:

@@ -9,6 +9,8 @@ Policies are compared and looked at, and refused ones are told at their places.
 
 It needs no browser. Exit status: 0 where all is as it should be, else 1.
 """
+from __future__ import annotations
+
 import contextlib
 import json
 import os
@@ -16,6 +18,7 @@ import socket
 import tempfile
 import time
 from concurrent.futures import ThreadPoolExecutor
+from typing import Any, Dict, Iterator, List, Tuple
 
 from tools.commands.command_line.arguments import ToolParser
 from tools.commands.command_line.top import TOP
@@ -48,12 +51,12 @@ sleep "$(cat script)"
 """
 
 
-def text_of(path):
+def text_of(path: str) -> str:
     with open(path, encoding="utf-8") as file:
         return file.read()
 
 
-def reports():
+def reports() -> Iterator[Tuple[str, str]]:
     """The policies of the examples with the reports that are stored beside them."""
     for name in sorted(os.listdir(f"{TOP}/examples")):
         if os.path.isfile(f"{TOP}/examples/{name}/report.txt"):
@@ -63,10 +66,10 @@ def reports():
 class Asker:
     """Sends bytes to a port, and gives the status and the whole answer."""
 
-    def __init__(self, port):
+    def __init__(self, port: int) -> None:
         self.port, self.own = port, f"127.0.0.1:{port}"
 
-    def raw(self, data, shut=False):
+    def raw(self, data: bytes, shut: bool = False) -> Any:
         with socket.create_connection(("127.0.0.1", self.port), timeout=30) as line:
             try:
                 line.sendall(data)
@@ -84,7 +87,7 @@ class Asker:
         words = answer.split(b" ", 2)
         return (int(words[1]) if len(words) > 2 and words[0].startswith(b"HTTP/") else None), answer
 
-    def request(self, method, path, headers=(), body=b""):
+    def request(self, method: str, path: str, headers: Any = (), body: bytes = b"") -> bytes:
         lines = [f"{method} {path} HTTP/1.1".encode("latin-1"), *(f"{name}: {value}".encode("latin-1") for name, value in headers)]
         return b"\r\n".join(lines) + b"\r\n\r\n" + body
 
@@ -98,7 +101,7 @@ class Asker:
         return self.request("POST", path, self.headers(**{"Content_Length": len(body), **changed}), body)
 
 
-def hosts(asker):
+def hosts(asker: Asker) -> Iterator[Tuple[str, int, bytes]]:
     port = asker.port
     wrong = ["evil.example", f"evil.example:{port}", "127.0.0.1", "localhost", "127.0.0.1:1", f"localhost.evil.example:{port}", f"[::1]:{port}", f"0.0.0.0:{port}", f"127.0.0.2:{port}", f"LOCALHOST:{port}",
              f"127.0.0.1:{port}@evil.example", "", None]
@@ -110,7 +113,7 @@ def hosts(asker):
     yield "HTTP/0.9", 421, b"GET /\r\n\r\n"
 
 
-def origins(asker):
+def origins(asker: Asker) -> Iterator[Tuple[str, int, bytes]]:
     port = asker.port
     for origin in [None, "null", "", "http://evil.example", f"https://127.0.0.1:{port}", "http://127.0.0.1", f"http://127.0.0.1:{port}.evil.example", f"http://localhost:{port}", f"http://127.0.0.1:{port}/", "file://"]:
         yield f"POST /play from {origin}", 403, asker.post("/play", GOOD, Origin=origin)
@@ -123,7 +126,7 @@ def origins(asker):
     yield "the page in another one's frame", 403, asker.request("GET", "/", [("Host", asker.own), ("Sec-Fetch-Site", "cross-site"), ("Sec-Fetch-Mode", "navigate"), ("Sec-Fetch-Dest", "iframe")])
 
 
-def methods_and_paths(asker):
+def methods_and_paths(asker: Asker) -> Iterator[Tuple[str, int, bytes]]:
     own = [("Host", asker.own)]
     for method in ["HEAD", "PUT", "DELETE", "OPTIONS", "PATCH", "TRACE", "CONNECT", "get", "FOO"]:
         yield f"{method} /", 501, asker.request(method, "/", own)
@@ -142,7 +145,7 @@ def methods_and_paths(asker):
     yield "zero bytes", 400, b"\0\0\0\0\r\n\r\n"
 
 
-def headers(asker):
+def headers(asker: Asker) -> Iterator[Tuple[str, int, bytes]]:
     own = [("Host", asker.own)]
     yield "200 headers", 431, asker.request("GET", "/", [*own, *((f"X-{number}", "x") for number in range(200))])
     yield "a long header", 431, asker.request("GET", "/", [*own, ("X", "x" * 70_000)])
@@ -207,7 +210,7 @@ def still_serves(asker, after):
     return None if status == 200 and told.get("status") == 0 and len(told["view"]["scene"]["lane"]) == 15 else f"after {after}: a good request has status {status}: {answer[-300:]!r}"
 
 
-def messages_of(answer):
+def messages_of(answer: bytes) -> List[Dict[str, Any]]:
     """The messages of an exploration, in the answer that they came in."""
     return [json.loads(line) for line in answer.partition(b"\r\n\r\n")[2].splitlines()]
 
@@ -232,13 +235,13 @@ def explores(asker):
     return fault or (None if good else f"an exploration: {last}")
 
 
-def asked(asker, path, body):
+def asked(asker: Asker, path: str, body: Dict[str, str]) -> Dict[str, Any]:
     """What the page is told of a good request."""
     status, answer = asker.raw(asker.post(path, body))
     return json.loads(answer.partition(b"\r\n\r\n")[2]) if status == 200 else {"status": f"{status} of HTTP"}
 
 
-def trails_of(scene):
+def trails_of(scene: Dict[str, List[Any]]) -> Iterator[Tuple[str, str]]:
     """The lines of each decided session that a page sends, and the rule that the report names."""
     for place, lane, number, end, _, rule, verdict, *_ in scene["sessions"]:
         if verdict in DECIDED and number >= 0:
@@ -246,7 +249,7 @@ def trails_of(scene):
             yield rule, "".join(f"{scene['lines'][at + 1]}\n" for at in (scene["calls"][number][0], *events))
 
 
-def explains(asker):
+def explains(asker: Asker) -> Iterator[Any]:
     """What is wrong with what is explained: each decided call of the examples has the rule that the report names."""
     count = 0
     for policy, report in reports():
@@ -263,7 +266,7 @@ def explains(asker):
             yield f"the trail {trail[:60]!r}: {told}"
 
 
-def notes_of_scenes(asker):
+def notes_of_scenes(asker: Asker) -> Iterator[Any]:
     """What is wrong with what is worth a look in reports: where a text is overwritten, and nothing where none is."""
     for name, wanted in (("rewritten-path", [9]), ("reused-pid", []), ("first", [])):
         scene = asked(asker, "/picture", {"report": text_of(f"{TOP}/examples/{name}/report.txt")})["view"]["scene"]
@@ -302,7 +305,7 @@ def steps(asker):
         yield f"steps of a script that is refused: {told}"
 
 
-def notes_fault(asker, form, text, wanted):
+def notes_fault(asker: Any, form: str, text: Any, wanted: Any) -> Iterator[Any]:
     """What is wrong with what is noted of a text: the names of the findings with their lines, and each with its cure."""
     told = asked(asker, f"/{form}", text)
     found = told.get("findings", [])
@@ -310,7 +313,7 @@ def notes_fault(asker, form, text, wanted):
         yield f"the text {str(text)[:60]}: {told}"
 
 
-def of_policies(asker):
+def of_policies(asker: Asker) -> Iterator[Any]:
     """What is wrong with what is said of policies."""
     careless = text_of(f"{TOP}/examples/policies/careless.json")
     equal, narrower, other = (asked(asker, "/compare", {"old": POLICY, "new": new}) for new in (POLICY, "{}", text_of(f"{TOP}/examples/policies/backups.json")))
@@ -331,7 +334,7 @@ def of_policies(asker):
         yield from notes_fault(asker, "lint-script", {"script": script}, wanted)
 
 
-def said_as_text(asker):
+def said_as_text(asker: Asker) -> Iterator[Any]:
     """What a policy and a report with markup come to: their names come back as JSON, never as a page."""
     for name, path, asked, wanted in [
         ("a rule named <script>", "/play", {**GOOD, "policy": '{"rules":[{"name":"<script>alert(1)</script>","call":"mknod","then":"pass"}]}'}, ["policy", 1, 11, 17]),
@@ -365,13 +368,13 @@ def hostile(program):
     return count + len(answers), [fault for fault in faults if fault]
 
 
-def still_run(seen):
+def still_run(seen: str) -> List[Any]:
     """The processes of a file that haven't ended."""
     with open(seen, encoding="utf-8") as file:
         return [pid for pid in file.read().split() if os.path.exists(f"/proc/{pid}")]
 
 
-def explorations_end(asker, seen):
+def explorations_end(asker: Asker, seen: str) -> Iterator[Any]:
     """What is wrong with explorations that take long: one ends at its limit, and one where the page hangs up."""
     begun = time.monotonic()
     status, answer = asker.raw(asker.post("/explore", {**EXPLORED, "script": "25", "delays": "all", "seconds": 1}))
@@ -388,7 +391,7 @@ def explorations_end(asker, seen):
         yield f"an exploration whose page hangs up goes on: {still_run(seen)}"
 
 
-def limits():
+def limits() -> Iterator[Any]:
     """What is wrong with the limits of time and number, tried on a program that takes long."""
     with tempfile.TemporaryDirectory() as room:
         path, seen = f"{room}/slow", f"{room}/seen"

@@ -13,6 +13,8 @@ played as a script too, and the audit has to name that rule. (No file of calls h
 PROGRAM is the one that ./broker runs, if none is named. What isn't as it should be is told with the number of the draw, which --first I --pairs 1 makes again.
 Exit status: 0 where all is so, else 1. The last line is `policies: N passed, N failed`.
 """
+from __future__ import annotations
+
 import os
 import re
 import subprocess
@@ -21,6 +23,7 @@ from collections import Counter
 from concurrent.futures import ProcessPoolExecutor
 from itertools import zip_longest
 from pathlib import Path
+from typing import TYPE_CHECKING, Any, Dict, List, Tuple
 
 from tools.checks.tallies import Tally, TrialParser
 from tools.references.deciding import claims as claimed
@@ -33,6 +36,9 @@ from tools.references.deciding.played import script_of
 from tools.references.stepping.explaining import Refused as NoCall, calls_of
 from tools.references.stepping.policies import Refused, read_policy
 from tools.references.stepping.rules import Mknod, decide, fits
+
+if TYPE_CHECKING:
+    from tools.references.stepping.rules import Rule
 
 EQUAL, DIFFERENT = 0, 11
 # at most this many lines behind the first one
@@ -68,13 +74,13 @@ class Asked:
     def write(self, name, data):
         Path(self.room, name).write_bytes(data)
 
-    def says(self, *words):
+    def says(self, *words: str) -> Tuple[int, str]:
         """The exit status, and what is printed."""
         ended = subprocess.run([self.program, *words], cwd=self.room, stdin=subprocess.DEVNULL, capture_output=True)
         need(not ended.stderr, f"{' '.join(words)}: {ended.stderr.decode('latin-1').strip()} (status {ended.returncode})")
         return ended.returncode, ended.stdout.decode("ascii")
 
-    def decisions(self, policy, calls):
+    def decisions(self, policy: str, calls: List[str]) -> List[str]:
         """The rules that decide calls, by `explain`."""
         self.write("calls.txt", "".join(f"{call}\n" for call in calls).encode("ascii"))
         _, output = self.says("explain", policy, "calls.txt")
@@ -84,7 +90,7 @@ class Asked:
 # ---- calls that are printed
 
 
-def requests_of(call):
+def requests_of(call: str) -> List[Any]:
     """The calls that a text may stand for: one, or a device with its number in 32 bits and one with more."""
     kind = call.rsplit(" ", 1)[-1]
     try:
@@ -97,7 +103,7 @@ def requests_of(call):
     return [request, request._replace(device=request.device + HIGH_BIT)]
 
 
-def is_writable(request):
+def is_writable(request: Any) -> bool:
     """Whether a file of calls may have it."""
     return not isinstance(request, Mknod) or (request.device < HIGH_BIT and request.mode not in OTHER_KINDS.values())
 
@@ -105,13 +111,13 @@ def is_writable(request):
 class Witness:
     """A call that is printed, and the rules that are printed with it, by the policies' names."""
 
-    def __init__(self, call, rules_by_policy, wanted):
+    def __init__(self, call: str, rules_by_policy: Dict[str, List[Rule]], wanted: Dict[str, str]) -> None:
         self.call, self.wanted = call, wanted
         self.request = next((it for it in requests_of(call) if all(decide(rules_by_policy[policy], it).name == rule for policy, rule in wanted.items())), None)
         need(self.request is not None, f"{call} isn't decided by {wanted}")
 
 
-def check_witnesses(asked, witnesses):
+def check_witnesses(asked: Asked, witnesses: List[Witness]) -> None:
     writable = [it for it in witnesses if is_writable(it.request)]
     for policy in {policy for it in writable for policy in it.wanted}:
         of_policy = [it for it in writable if policy in it.wanted]
@@ -121,7 +127,7 @@ def check_witnesses(asked, witnesses):
             need(rule == witness.wanted[policy], f"{witness.call}: explain says {rule} of {policy}, and not {witness.wanted[policy]}")
 
 
-def play(asked, witness):
+def play(asked: Any, witness: Any) -> None:
     """Plays a witness' call under each policy: the audit has to name the rule."""
     asked.write("script.txt", script_of(witness.request))
     for policy, rule in witness.wanted.items():
@@ -168,7 +174,7 @@ def compared(asked, rules):
     return witnesses
 
 
-def claims_checked(asked, rules, data):
+def claims_checked(asked: Asked, rules: Dict[str, List[Rule]], data: bytes) -> List[Witness]:
     """Checks `check`. The witnesses that it prints."""
     old, claims = rules["old.json"], claimed.read_claims(data)
     found = [claimed.standing(old, claim) for claim in claims]
@@ -194,7 +200,7 @@ def standing_told(old, claim, line, comes_to, against):
     return it[1], Witness(it[4], {"old.json": old}, {"old.json": it[5]})
 
 
-def linted(asked, data, own):
+def linted(asked: Any, data: bytes, own: int) -> None:
     """Checks those findings of `lint` on rules that are exact."""
     rules = read_policy(data)
     wanted = list(map(parted, lines_of(data, findings(rules, own))))
@@ -210,13 +216,13 @@ def linted(asked, data, own):
     need(wrong is None, f"lint: {wrong and wrong[0]}, and it says {wrong and wrong[1]}")
 
 
-def parted(line):
+def parted(line: str) -> Tuple[List[str], List[str]]:
     """The words of a finding's line, and the names behind them, whose order isn't said."""
     words, _, names = line.partition(" by=")
     return words.split(" "), sorted(names.split(","))
 
 
-def refusal_told(asked, data):
+def refusal_told(asked: Asked, data: bytes) -> None:
     """Checks what `lint` says of a damaged policy: the refusal and its place, where it is refused."""
     try:
         read_policy(data)
@@ -256,7 +262,7 @@ def fault(program, seed, is_played, words):
     return None
 
 
-def main():
+def main() -> bool:
     parser = TrialParser().add_draws(120, "pairs")
     parser.add_argument("--played", type=int, default=20)
     parser.add_argument("--words", default="compare,check,lint")

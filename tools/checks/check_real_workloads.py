@@ -23,6 +23,7 @@ import tempfile
 import time
 from concurrent.futures import ThreadPoolExecutor
 from pathlib import Path
+from typing import Any, List
 
 from tools.commands.command_line.arguments import ToolParser
 from tools.commands.real_workloads import changed_outcomes, program
@@ -70,7 +71,7 @@ class Check:
         self.wrong += 1
         print(f"check-real-workloads: {text}", flush=True)
 
-    def tool(self, name, *words, python=sys.executable):
+    def tool(self, name: str, *words: str, python: str = sys.executable) -> subprocess.CompletedProcess[Any]:
         command = [python, f"{program.TOP}/broker", "--as", f"{TOOLS}/{name}", *words]
         try:
             return subprocess.run(command, stdin=subprocess.DEVNULL, capture_output=True, text=True, timeout=SECONDS, check=False)
@@ -93,7 +94,7 @@ class Check:
                 self.fault(f"{name}: a difference has no name: {answers.stderr}")
         self.passed.append(f"{len(STORED)} stored scripts")
 
-    def changed(self):
+    def changed(self) -> None:
         """Outcomes of reports that are changed, one at a time: the trace explains none of them."""
         folders = [f"{EXAMPLES}/{name}" for name in STORED]
         pairs = [(f"{folder}/script.txt", f"{folder}/report.txt") for folder in folders] + self.reports
@@ -105,7 +106,7 @@ class Check:
                 self.fault(f"{script}, line {it.line} of the trace: {it.call} answered {it.traced}, in the play {it.play}; changed to {it.changed} it is excused: {it.name}")
         self.passed.append(f"{count:,} changed outcomes of {len(pairs)} reports without an excuse")
 
-    def policies(self):
+    def policies(self) -> None:
         """A script of which each call is notified comes to each of its calls, whatever the policy says."""
         policy = f"{self.room}/policy.json"
         for name, rules in POLICIES.items():
@@ -114,7 +115,7 @@ class Check:
                 self.fault(f"a policy that {name} isn't played")
         self.passed.append(f"{len(POLICIES)} policies that come to each call")
 
-    def playable(self, name, trace, *words, policy=POLICY, keep=False):
+    def playable(self, name: str, trace: str, *words: str, policy: str = POLICY, keep: bool = False) -> bool:
         """Whether a trace gives a script that is played, comes to each call, and whose differences have names; or one line."""
         folder = tempfile.mkdtemp(dir=self.room)
         script, report = f"{folder}/script.txt", f"{folder}/report.txt"
@@ -210,7 +211,7 @@ class Check:
         found = shutil.which("strace") and os.geteuid() == 0
         return found and subprocess.run(["strace", "-o", os.devnull, "true"], capture_output=True, check=False).returncode == 0
 
-    def recorded(self):
+    def recorded(self) -> None:
         """What is recorded here."""
         if not self.can_record():
             self.untried.append("recordings (no strace, not root, or no right to trace)")
@@ -220,7 +221,7 @@ class Check:
             self.record(name, ["sh", "-c", f"cd {folder}; {command}"], f"{self.room}/{name}.txt")
         self.passed.append(f"{len(RECORDED)} recordings")
 
-    def record(self, name, command, trace, *words, seconds=SECONDS):
+    def record(self, name: str, command: List[str], trace: str, *words: Any, seconds: int = SECONDS) -> None:
         recorder = subprocess.Popen([f"{TOOLS}/record", "-o", trace, "--", *command], stdin=subprocess.DEVNULL, stdout=subprocess.DEVNULL, stderr=subprocess.DEVNULL)
         try:
             recorder.wait(seconds)
@@ -230,7 +231,7 @@ class Check:
         if not self.playable(f"the recording of {name}", trace, *words):
             self.fault(f"the recording of {name} gives no script")
 
-    def long(self):
+    def long(self) -> None:
         """100,000 lines, and the first thousand calls of debootstrap."""
         trace = f"{self.room}/long.txt"
         with open(trace, "w", encoding="ascii") as file:
@@ -246,7 +247,7 @@ class Check:
         self.passed.append("the first thousand calls of debootstrap")
 
 
-def without_remarks(text):
+def without_remarks(text: str) -> List[str]:
     return [line for line in text.splitlines() if not line.startswith("#")]
 
 

@@ -7,6 +7,8 @@ as other machines would. Then results that don't belong together are refused, an
 PROGRAM is the program that is asked; without it, the one that ./broker runs. Exit status: 0 where all is so, else 1. The last line is
 `shards: N passed, N failed`.
 """
+from __future__ import annotations
+
 import contextlib
 import io
 import json
@@ -17,7 +19,7 @@ import subprocess
 import sys
 import tempfile
 from pathlib import Path
-from typing import NamedTuple, Optional
+from typing import TYPE_CHECKING, Any, Iterator, List, NamedTuple, Optional, Tuple, Union
 
 from tools.checks.check_explored_brokers import class_in, files_of, path_of
 from tools.checks.check_tests import stored
@@ -37,6 +39,10 @@ from tools.commands.testing.asking import Program
 from tools.commands.testing.command import FAILED, NOT_UNDERSTOOD, PASSED, Progress
 from tools.commands.testing.running import Runner
 from seccomp_step import Kernel
+
+if TYPE_CHECKING:
+    from tools.commands.exploring.runs import Played
+    from tools.commands.testing.results import FileResults
 
 COUNTS = (1, 2, 3, 7)
 NOT_WHOLE, UNDECIDED = 2, 12
@@ -79,7 +85,7 @@ def merged(room, results, *words):
 # ---- explorations
 
 
-def explored(trial, share=WHOLE, into=None):
+def explored(trial: Trial, share: Share = WHOLE, into: Optional[Union[Kept, explorations.ExploredShare]] = None) -> Union[Explored, Kept, explorations.ExploredShare]:
     broker = class_in(trial.broker)
     setting = Setting(files_of(trial.script), lambda: [InlineInstance(lambda channel: broker(Kernel(channel=channel)).run())])
     return explore(setting, trial.delays, trial.limit, share=share, explored=into or Explored(trial.delays))
@@ -92,7 +98,7 @@ def shares_of(trial, count):
         yield json.dumps(explorations.share_document(found, share, "reused", trial.limit, False))
 
 
-def exploration(trial, room, schemas):
+def exploration(trial: Trial, room: str, schemas: Schemas) -> Iterator[Any]:
     """What is wrong with the explorations of a broker in shares."""
     whole = explored(trial)
     document, status = explorations.document(whole), status_of(whole)
@@ -121,16 +127,16 @@ def first_run(trial):
 class Kept(Explored):
     """An exploration that keeps its runs."""
 
-    def __init__(self, delays, kept):
+    def __init__(self, delays: int, kept: List[Any]) -> None:
         super().__init__(delays)
         self.kept = kept
 
-    def take(self, played):
+    def take(self, played: Played) -> None:
         super().take(played)
         self.kept.append(played)
 
 
-def other_results(room):
+def other_results(room: str) -> Iterator[Any]:
     """Results that aren't the whole: what isn't refused or named."""
     trial = EXPLORED[0]
     one, two, three = map(json.loads, shares_of(trial, 3))
@@ -154,7 +160,7 @@ def other_results(room):
             yield f"{name}: status {ended.returncode}, {ended.stderr!r}"
 
 
-def words(room):
+def words(room: str) -> Iterator[Any]:
     """Whether the commands take shares as they are written, and no others."""
     brokers = TOP / "tests/brokers"
     behind = ["--no-program", "--jobs", "1", "--json", "--", sys.executable, "-B", str(path_of("no_second_check"))]
@@ -175,16 +181,16 @@ def words(room):
 # ---- tests
 
 
-def status_of_tests(every):
+def status_of_tests(every: List[FileResults]) -> int:
     return NOT_UNDERSTOOD if not all(it.is_understood for it in every) else FAILED if any(it.failed for it in every) else PASSED
 
 
-def ran(program, paths, share=WHOLE):
+def ran(program: str, paths: List[str], share: Share = WHOLE) -> Tuple[List[FileResults], Runner]:
     runner = Runner(Program(program, "./broker"), Progress(False), share)
     return runner.run(paths), runner
 
 
-def tests(program, paths, room, schemas):
+def tests(program: str, paths: List[str], room: str, schemas: Schemas) -> Iterator[Any]:
     """What is wrong with test files in shares."""
     whole, runner = ran(program, paths)
     document, xml, status = output.document_of(whole), junit.text_of(whole, runner.seconds), status_of_tests(whole)
@@ -206,7 +212,7 @@ def tests(program, paths, room, schemas):
             yield f"{count} shares: one has all tests of the first file"
 
 
-def tried(program, room):
+def tried(program: str, room: str) -> Iterator[Any]:
     """What was tried: a name, and what is wrong."""
     schemas = Schemas(TOP / "docs/schema")
     yield from ((f"{it.broker} with {it.script}, {it.delays} delays, limit {it.limit}", exploration(it, room, schemas)) for it in EXPLORED)
@@ -224,7 +230,7 @@ def tried(program, room):
         yield name, tests(program, paths, room, schemas)
 
 
-def main():
+def main() -> bool:
     program, count = arguments.program_asked(), Tally("shards")
     with tempfile.TemporaryDirectory(prefix="check-shards-") as room:
         count.note_all(tried(program, room))

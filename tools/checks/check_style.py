@@ -103,7 +103,7 @@ def figures():
     return {**{kind: {"words": hundreds(count)} if count > TOGETHER else {} for kind, count in together.items()}, **found}
 
 
-def long_subjects():
+def long_subjects() -> List[Any]:
     """The commits after this check whose subjects are too long."""
     git = ["git", "-C", str(TOP), "log", "--no-merges", "--format=%h %s"]
     first = subprocess.run([*git[:4], "--follow", "--diff-filter=A", "--format=%H", "--", str(Path(__file__).resolve())], capture_output=True, text=True).stdout.split()
@@ -125,7 +125,7 @@ def write(exceptions):
     (TABLES / "exceptions.json").write_text("{\n" + ",\n".join(rows) + "\n}\n" if rows else "{}\n", encoding="utf-8")
 
 
-def compared(now, before):
+def compared(now: Any, before: Any) -> Iterator[Any]:
     """Each figure with what is wrong with it, or None."""
     for name in sorted({*now, *before}):
         for kind in KINDS:
@@ -142,7 +142,7 @@ def shown(names):
             print(f"{name}:{line}: {finding}")
 
 
-def main():
+def main() -> bool:
     parser = ToolParser()
     parser.add_argument("--lower", action="store_true", help="lowers the figures of the list of exceptions that got better")
     parser.add_argument("pages", metavar="PAGE", nargs="*")

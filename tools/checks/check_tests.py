@@ -19,7 +19,7 @@ import tempfile
 import time
 from difflib import unified_diff
 from pathlib import Path
-from typing import Iterator, Tuple
+from typing import TYPE_CHECKING, Any, Iterator, Tuple
 from xml.etree import ElementTree
 
 from tools.checks.json_schemas import Schemas, undetected
@@ -33,6 +33,9 @@ from tools.commands.testing.command import FAILED, NOT_UNDERSTOOD, PASSED, Progr
 from tools.commands.testing.profiles import python_with_libseccomp
 from tools.commands.testing.running import Runner, Tests, read
 from tools.commands.testing.scripts import batches, container_of, script_of
+
+if TYPE_CHECKING:
+    from tools.commands.testing.results import FileResults
 
 
 MARK = b"---- what is said\n"
@@ -63,11 +66,11 @@ TOO_LONG = 256 * "n"
 MOST_WAIT = 15
 
 
-def status_of(results):
+def status_of(results: FileResults) -> int:
     return NOT_UNDERSTOOD if results.findings else FAILED if results.failed else PASSED
 
 
-def said_of(results):
+def said_of(results: FileResults) -> str:
     return "".join(f"{line}\n" for line in [*results.warnings, *output.Lines(False).of_file(results), output.summary([results])])
 
 
@@ -91,7 +94,7 @@ def stored(room: str) -> Iterator[Tuple[str, ...]]:
         print(f"tests: {left_out} files with profiles are left out: libseccomp's module for Python (python3-seccomp) isn't there", flush=True)
 
 
-def of_files(program, room):
+def of_files(program: str, room: str) -> Iterator[Tuple[str, str]]:
     """What is wrong with what is said of each test file."""
     files = list(stored(room))
     every = Runner(Program(program, "./broker"), Progress(False)).run([f"{folder}.{name}" for folder, name, _ in files])
@@ -106,7 +109,7 @@ def run(program, room, *words, **environment):
                           env={**os.environ, **environment})
 
 
-def statuses(program, room):
+def statuses(program: str, room: str) -> Iterator[Any]:
     for names, status, last in ((["good.test"], PASSED, "1 passed, 0 failed"), (["good.test", "bad.test"], FAILED, "1 passed, 1 failed"),
                                 (["bad.test", "wrong.test"], NOT_UNDERSTOOD, "0 passed, 1 failed; 1 file not understood"),
                                 (["none.test"], NOT_UNDERSTOOD, "0 passed, 0 failed; 1 file not understood")):
@@ -119,7 +122,7 @@ def statuses(program, room):
         yield f"a program that isn't there: status {ended.returncode}, {ended.stderr!r}"
 
 
-def folders(program, room):
+def folders(program: str, room: str) -> Iterator[Any]:
     """Whether a folder stands for the test files below it."""
     for name, content in (("kept/b/one.test", GOOD), ("kept/a.test", GOOD), ("kept/b/none.txt", WRONG)):
         Path(room, name).parent.mkdir(parents=True, exist_ok=True)
@@ -135,7 +138,7 @@ def folders(program, room):
         yield f"a folder without tests: status {ended.returncode}, {ended.stdout!r}, {ended.stderr!r}"
 
 
-def documents(program, room):
+def documents(program: str, room: str) -> Iterator[Any]:
     ended = run(program, room, "--json", "--junit", "results.xml", "good.test", "bad.test", "wrong.test")
     document = json.loads(ended.stdout)
     schemas = Schemas(TOP / "docs/schema")
@@ -150,7 +153,7 @@ def documents(program, room):
         yield f"the XML has other numbers: {ElementTree.tostring(root)!r}"
 
 
-def scripts(program, room):
+def scripts(program: str, room: str) -> Iterator[Any]:
     """Whether the calls and the scripts that are shown are ones that the program takes."""
     Path(room, "played.test").write_text(GOOD.replace("granted", "granted 0"))
     for name, words in (("good.test", ("explain", "lxd.json", "shown.txt")), ("played.test", ("explore", "lxd.json", "shown.txt", "0", "0"))):
@@ -186,7 +189,7 @@ def decisions(program, room):
             yield f"{policy}: {len(explained)} of {len(group.singles)} calls are explained"
 
 
-def exploration_cut_off(_, room):
+def exploration_cut_off(_: str, room: str) -> Iterator[Any]:
     """Whether `never` and `always` aren't said of an exploration that was cut off, and what it did find counts."""
     slow = Path(room, "cut-off")
     slow.write_text(CUT_OFF)
@@ -202,7 +205,7 @@ def shown_on_terminal(program, room, **environment):
     return on_terminal([*COMMAND, "--program", program, "good.test"], room, is_output=True, **environment)[2]
 
 
-def colours(program, room):
+def colours(program: str, room: str) -> Iterator[Any]:
     if b"\x1b[32mok\x1b[0m" not in shown_on_terminal(program, room, NO_COLOR=""):
         yield "a terminal has no colours"
     if b"\x1b" in shown_on_terminal(program, room, NO_COLOR="1"):
@@ -228,14 +231,14 @@ def watching(program, room):
         yield f"--watch: status {status}, {lines}"
 
 
-def examples(program, _):
+def examples(program: str, _: str) -> Iterator[Any]:
     for name in ("container.test", "traced.test", "three-callers.test"):
         ended = run(program, TOP, f"examples/tests/{name}")
         if ended.returncode or not ended.stdout.endswith(" passed, 0 failed\n"):
             yield f"{name}: status {ended.returncode}, {ended.stdout!r}, {ended.stderr!r}"
 
 
-def tried(program, room):
+def tried(program: str, room: str) -> Iterator[Tuple[str, str]]:
     """What was tried: a name, and what is wrong."""
     os.chdir(room)
     yield from of_files(program, room)
@@ -245,7 +248,7 @@ def tried(program, room):
         yield f"the command: {check.__name__}", "\n".join(check(program, room))
 
 
-def main():
+def main() -> bool:
     program = arguments.program_asked()
     # (a command that runs on until it is interrupted must be able to be)
     ending.as_in_foreground()

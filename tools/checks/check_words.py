@@ -10,7 +10,7 @@ from __future__ import annotations
 
 import re
 import subprocess
-from typing import Any, Dict, Set
+from typing import Any, Dict, Iterator, Set, Tuple
 
 from tools.checks.tallies import Tally
 from tools.commands.command_line import arguments, pages, table
@@ -35,7 +35,7 @@ def options_of(tool: str) -> Set[str]:
     return set(re.findall(r"\[(-[-a-z]+)", said.stderr)) - {"-h"}
 
 
-def checks(known, program):
+def checks(known: Dict[str, Any], program: str) -> Iterator[Tuple[str, Set[str], Set[str]]]:
     """What is compared: a text, what the table has, and what is found."""
     forms = {f"{it['word']} {form}" for it in known["words"] if it["kind"] == "program" for form in it["forms"]}
     yield "forms in the program's usage line", forms, usage_of(program)

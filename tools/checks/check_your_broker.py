@@ -14,6 +14,8 @@ long lines, and 100,000 at once. Inputs and outputs that fail end the program as
 
 Exit status: 0 where all passed, else 1. The last line is `your-broker: N passed, N failed`.
 """
+from __future__ import annotations
+
 import functools
 import os
 import random
@@ -23,6 +25,7 @@ import subprocess
 import sys
 import tempfile
 from pathlib import Path
+from typing import TYPE_CHECKING, Any, List, Optional, Tuple
 
 from tools.checks.tallies import Tally
 from tools.commands.command_line import arguments
@@ -35,6 +38,10 @@ from tools.references.stepping.fuzzing import changed_script, trials
 from tools.references.stepping.plays import ended_slowly
 from tools.references.stepping.replay import NotReplayed, replayed
 from tools.references.stepping.shared import shared_again, with_two_workers
+
+if TYPE_CHECKING:
+    from tools.references.stepping.asking import Files
+    from tools.references.stepping.drawn import Drawn
 
 WARNINGS = ["-std=c11", "-Wall", "-Wextra", "-Wpedantic", "-Werror", "-g"]
 SANITIZED = ["-fsanitize=address,undefined", "-fno-sanitize-recover"]
@@ -51,7 +58,7 @@ PATIENCE = 300
 # ---- the brokers in other languages
 
 
-def has(command, what):
+def has(command: str, what: str) -> bool:
     if shutil.which(command):
         return True
     print(f"your-broker: {command} isn't on the PATH, so {what} isn't run")
@@ -67,14 +74,14 @@ def run(words, folder, **variables):
     return None if ended.returncode == 0 else f"status {ended.returncode}\n{ended.stdout}"
 
 
-def sanitizers(room):
+def sanitizers(room: str) -> List[str]:
     """The flags of the sanitizers, where the compiler has them."""
     Path(f"{room}/empty.c").write_text("int main(void) { return 0; }\n")
     tried = subprocess.run(["cc", *SANITIZED, "empty.c", "-o", "empty"], cwd=room, capture_output=True)
     return SANITIZED if tried.returncode == 0 else []
 
 
-def try_languages(count, program):
+def try_languages(count: Tally, program: str) -> None:
     named = {"SECCOMP_BROKER": program}
     with tempfile.TemporaryDirectory(prefix="check-your-broker-") as room:
         if has("cc", "the broker in C"):
@@ -97,7 +104,7 @@ def explored(command, status, told):
     return None if ended.returncode == status and told in ended.stdout else f"status {ended.returncode}\n{ended.stdout}"
 
 
-def try_explorer(count, room):
+def try_explorer(count: Tally, room: str) -> None:
     """Explores the brokers in each language, which connect to the explorer's kernel."""
     nothing = (0, " findings=0 whole=bound\n")
     if shutil.which("cc"):
@@ -116,7 +123,7 @@ def try_explorer(count, room):
 # ---- sessions
 
 
-def report_in(folder):
+def report_in(folder: str) -> Optional[str]:
     """The report that a play of a folder's files gave, or None."""
     found = next((path for path in (Path(f"{TOP}/{folder}/stdout"), Path(f"{TOP}/{folder}/report.txt")) if path.is_file()), None)
     text = found.read_text("latin-1").partition("handovers ")[0] if found else ""
@@ -124,7 +131,7 @@ def report_in(folder):
 
 
 @functools.cache
-def known_folders():
+def known_folders() -> List[Tuple[str, Files]]:
     """The folders of cases and examples, with those more often whose broker has descriptors."""
     known = list(folders())
     return known + [(folder, files) for folder, files in known if files.session().kernel.container.broker] * OFTEN
@@ -156,7 +163,7 @@ def try_shared(count, program, folder, files, report):
         count.note(f"the report of {folder}, with {own} as this project's worker", unlike_play(program, files, script, (0, wanted.encode("latin-1"), b"")))
 
 
-def session_numbered(number, seed):
+def session_numbered(number: int, seed: int) -> Tuple[str, Files, Drawn]:
     """A drawn session: its name, its files, and its requests with their answers."""
     folder, files = random.Random(f"{seed} {number}").choice(known_folders())
     return f"session {number} over {folder}", files, drawn(files.session(), f"{seed} {number}")
@@ -177,21 +184,21 @@ def unlike_play(program, files, script, wanted):
     return None if played == wanted else f"expected {wanted}, and it is {played}, of\n{script.decode('latin-1')}"
 
 
-def try_script(count, program, files, session, name, seed):
+def try_script(count: Tally, program: str, files: Files, session: Drawn, name: str, seed: str) -> None:
     """Plays the script of a session, which gives the session's report, and scripts that are made of it by changes."""
     script, report = script_and_report(session)
     count.note(name, unlike_play(program, files, script, (0, report, b"")))
     try_changes(count, program, files, script, name, seed)
 
 
-def try_changes(count, program, files, script, name, seed):
+def try_changes(count: Tally, program: str, files: Files, script: bytes, name: str, seed: str) -> None:
     """Plays scripts that are made of one by changes: as the written kernel does."""
     for number in range(CHANGES):
         changed = changed_script(random.Random(f"{seed} {number}"), script)
         count.note(f"{name}, changed {number}", unlike_play(program, files, changed, ended_slowly(files, changed)))
 
 
-def try_schedules(count, program, number_of_schedules, seed):
+def try_schedules(count: Tally, program: str, number_of_schedules: int, seed: int) -> None:
     """Plays schedules with workers of this project and of another broker."""
     for number in range(number_of_schedules):
         folder, files = random.Random(f"{seed} schedule {number}").choice(known_folders())
@@ -201,7 +208,7 @@ def try_schedules(count, program, number_of_schedules, seed):
         try_changes(count, program, files, script, name, own_seed)
 
 
-def try_fuzz(count, program, seed):
+def try_fuzz(count: Tally, program: str, seed: int) -> None:
     for name, files, lines in trials(seed, known_folders()):
         count.note(name, at_once(program, files, lines, answers_of(files.session(), lines)))
 
@@ -209,7 +216,7 @@ def try_fuzz(count, program, seed):
 # ---- inputs and outputs that fail
 
 
-def ended(program, **streams):
+def ended(program: str, **streams: Any) -> Tuple[int, bytes]:
     """How the program ends over such streams: its status, and its line on standard error."""
     _, files = known_folders()[0]
     done = subprocess.run(files.words(program), stderr=subprocess.PIPE, timeout=PATIENCE, **streams)

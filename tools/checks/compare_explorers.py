@@ -17,10 +17,11 @@ import os
 import random
 import subprocess
 import tempfile
+from argparse import Namespace
 from concurrent.futures import ThreadPoolExecutor
 from pathlib import Path
 from random import Random
-from typing import List, Tuple
+from typing import Any, Dict, Iterator, List, Optional, Set, Tuple
 
 from tools.checks import known
 from tools.checks.tallies import TrialParser
@@ -104,7 +105,7 @@ def drawn_tree(chance: Random) -> Tuple[str, ...]:
     return json.dumps(TREE_POLICY), "\n".join([*settings, "", *helper, "", *main, ""])
 
 
-def made(room, seed, count, kind, draw):
+def made(room: str, seed: Any, count: int, kind: str, draw: Any) -> Iterator[Any]:
     """The folders of scripts that are drawn."""
     for number in range(count):
         folder = Path(room, f"{kind}-{number}")
@@ -124,7 +125,7 @@ def kept(room):
 # ---- what is compared
 
 
-def explored(program, folder, workers, delays, seconds):
+def explored(program: str, folder: Path, workers: str, delays: str, seconds: float) -> Any:
     """What the program prints, or None where it takes too long."""
     try:
         return subprocess.run([program, "explore", *FILES, workers, delays], cwd=folder, stdin=subprocess.DEVNULL, capture_output=True, timeout=seconds)
@@ -132,11 +133,11 @@ def explored(program, folder, workers, delays, seconds):
         return None
 
 
-def counts(out):
+def counts(out: bytes) -> Dict[bytes, int]:
     return {name: int(value) for name, value in (field.split(b"=") for field in out.split(b"\n")[0].split()[1:]) if value.isdigit()}
 
 
-def fault(asked, folder, workers, delays):
+def fault(asked: Namespace, folder: Path, workers: str, delays: str) -> Optional[str]:
     """What is wrong with an exploration, if anything is; `left out` where it isn't compared."""
     ended = explored(asked.program, folder, workers, delays, asked.seconds)
     if ended is None:
@@ -156,12 +157,12 @@ def fault(asked, folder, workers, delays):
     return "; ".join(faults_in(broker, ended.stdout.decode("latin-1"))) or None
 
 
-def outcomes(out):
+def outcomes(out: bytes) -> Set[bytes]:
     """The outcomes that are printed, a text each."""
     return {block.split(b"schedule", 1)[0].split(b"\n", 1)[1] for block in out.split(b"\noutcome ")[1:]}
 
 
-def within(asked, folders):
+def within(asked: Namespace, folders: List[Path]) -> List[int]:
     """How many outcomes the scripts have without a bound, and how many of them come up within each bound."""
     found = [0] * 10
     for folder in folders:
@@ -176,7 +177,7 @@ def within(asked, folders):
     return found
 
 
-def arguments():
+def arguments() -> Namespace:
     parser = TrialParser().add_seed().add_limits(60.0, 2).add_built()
     parser.add_argument("--drawn", type=int, default=100, help="scripts that are drawn (%(default)s)")
     parser.add_argument("--trees", type=int, default=10, help="scripts that are drawn in which tasks mount and set attributes (%(default)s)")
@@ -187,7 +188,7 @@ def arguments():
     return parser.with_program()
 
 
-def main():
+def main() -> bool:
     asked = arguments()
     results = {}
     with tempfile.TemporaryDirectory(prefix="explorers-") as room, ThreadPoolExecutor(asked.jobs) as pool:

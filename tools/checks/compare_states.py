@@ -18,7 +18,9 @@ import os
 import random
 import sys
 import tempfile
+from argparse import Namespace
 from pathlib import Path
+from typing import Any, Optional
 
 from tools.checks import compare_explorers as compare
 from tools.commands.command_line.arguments import ToolParser
@@ -33,7 +35,7 @@ from tools.references.stepping import policies, scripts
 BOUNDS = ["0", "1", "2", "3", "all"]
 
 
-def text_of(policy, script, workers, delays, dropped=(), most=None, split=False):
+def text_of(policy: bytes, script: bytes, workers: int, delays: str, dropped: Any = (), most: Optional[int] = None, split: bool = False) -> Optional[str]:
     rules, container = policies.read_policy(policy), scripts.read_script(script)
     return Exploration(rules, container, workers, None if delays == "all" else int(delays), dropped, split, most).walk().text()
 
@@ -47,7 +49,7 @@ def told(line: str) -> None:
 # ---- beside the program
 
 
-def faults(asked):
+def faults(asked: Namespace) -> bool:
     good = left = wrong = 0
     with tempfile.TemporaryDirectory(prefix="states-") as room:
         folders = [] if asked.no_cases else list(compare.kept(room))

@@ -18,7 +18,7 @@ import subprocess
 import tempfile
 from collections import Counter
 from random import Random
-from typing import Iterator, List, Optional, Tuple, Union
+from typing import Any, Callable, Iterator, List, Optional, Tuple, Union
 
 from tools.checks.tallies import TrialParser
 from tools.commands.command_line.top import TOP
@@ -37,7 +37,7 @@ class Bench:
     def __init__(self, program: str, room: str) -> None:
         self.program, self.room = program, room
 
-    def run(self, *words):
+    def run(self, *words: str) -> Any:
         ended = subprocess.run([self.program, *words], cwd=self.room, stdin=subprocess.DEVNULL, capture_output=True, timeout=120)
         return ended.returncode, ended.stdout, ended.stderr
 
@@ -80,7 +80,7 @@ def first_difference(ours: List[bytes], theirs: List[bytes]) -> int:
     return min(len(ours), len(theirs)) + 1
 
 
-def slow(bench, policy, script, report):
+def slow(bench: Any, policy: bytes, script: str, report: bytes) -> Any:
     """What a reading says that plays the turns of the journal: ("yes", events), ("no", line), or OPEN."""
     lines = report.split(b"\n")
     last, lines = lines[-1], lines[:-1]
@@ -139,8 +139,8 @@ def a_byte(rng, report):
     ])
 
 
-def of_lines(change):
-    def damage(rng, report):
+def of_lines(change: Callable[..., Any]) -> Callable[..., Any]:
+    def damage(rng: Random, report: bytes) -> bytes:
         lines = report.split(b"\n")[:-1]
         change(rng, lines)
         return b"".join(it + b"\n" for it in lines)

@@ -14,19 +14,26 @@ comes with another status, or if the line isn't that of what failed: no memory (
 output (6) after a call on a file. A call that moves a single byte changes nothing. What comes of threads
 that can't be created is tried by tools/checks/failing-threads.
 """
+from __future__ import annotations
+
 import os
 import random
 import re
 import subprocess
 import tempfile
+from argparse import Namespace
 from collections import Counter
 from concurrent.futures import ThreadPoolExecutor
 from pathlib import Path
+from typing import TYPE_CHECKING, Any, List, Optional, Tuple, Union
 
 from tools.checks import fuzz
 from tools.checks.preloaded import built
 from tools.checks.tallies import TrialParser, answer_of, statuses_told
 from tools.commands.command_line.top import TOP
+
+if TYPE_CHECKING:
+    from tools.checks.tallies import Answer
 
 DONE, NO_MEMORY = (0, b""), (7, b"no memory\n")
 FILE_FAULTS = [*((2, b"read fault: %s\n" % name) for name in (b"policy", b"script", b"calls", b"claims", b"requests")), (6, b"write fault\n")]
@@ -48,14 +55,14 @@ TASK = 'prog %s\npoke 0x10000 "/%s\\0"\ncall mknod 0x10000 0o020666 259\nend\n'
 class Row:
     """The words, and which output is whole. Threads may print one of many reports: of these the summary is known."""
 
-    def __init__(self, name, words, report=None, summary=None):
+    def __init__(self, name: str, words: List[str], report: Optional[bytes] = None, summary: Optional[bytes] = None) -> None:
         self.name, self.words, self.report, self.summary = name, words, report, summary
 
     def is_whole(self, out):
         has_form = fuzz.is_pod if self.words[0] == "pod" else fuzz.is_report
         return out == self.report if self.report is not None else has_form(out) and out.endswith(b"\n" + self.summary)
 
-    def is_part(self, out):
+    def is_part(self, out: bytes) -> bool:
         """Whether an output is what a fault leaves. The end of the requests may be what can't be read, once all have their answers."""
         return (self.words[0] == "step" or not self.is_whole(out)) and (self.report is None or self.report.startswith(out))
 
@@ -96,16 +103,16 @@ def rows(room, asked):
 class Runs:
     """Runs of the program with the library before it."""
 
-    def __init__(self, asked, room):
+    def __init__(self, asked: Namespace, room: str) -> None:
         self.asked, self.library, self.counts = asked, built(room), f"{room}/counts"
 
-    def run(self, words, **asks):
+    def run(self, words: Any, **asks: Union[int, str]) -> Any:
         """The status, the output and the line of a run; the status is None where it didn't end. Requests stand beside the script."""
         requests = f"{os.path.dirname(words[-1])}/stdin" if words[0] == "step" else os.devnull
         with open(requests, "rb") as source:
             return answer_of([self.asked.program, *words], self.asked.seconds, stdin=source, env={"LD_PRELOAD": self.library, **{name: str(value) for name, value in asks.items()}})
 
-    def counted(self, words):
+    def counted(self, words: List[str]) -> Tuple[Answer, List[int]]:
         """The answer with no fault, and how many calls of each kind there were."""
         answer = self.run(words, COUNTS=self.counts)
         return answer, [int(count) for count in Path(self.counts).read_text().split()]
@@ -123,7 +130,7 @@ def fault_of(row, kind, answer):
     return None
 
 
-def numbers(count, asked, chance):
+def numbers(count: int, asked: Namespace, chance: random.Random) -> List[int]:
     """The numbers of the faults that are tried, where there are so many calls."""
     later = range(asked.whole + 1, count + 1)
     return [*range(1, min(count, asked.whole) + 1), *sorted(chance.sample(later, min(asked.drawn, len(later))))]
@@ -156,7 +163,7 @@ def library_faults(room):
     return faults
 
 
-def main():
+def main() -> bool:
     parser = TrialParser().add_seed().add_limits(10.0).add_built()
     parser.add_argument("--whole", type=int, default=20_000, help="how many of the first calls of a kind fail, one after another")
     parser.add_argument("--drawn", type=int, default=2_000, help="how many of the later ones fail, drawn at random")

@@ -10,15 +10,19 @@ the counts of its summary aren't those of the run without threads. Where the add
 
 Exit status: 0 where no run is at fault, 1 where one is, 3 where there is no cc to build the library with.
 """
+from __future__ import annotations
+
 import os
 import resource
 import shutil
 import sys
 import tempfile
 import time
+from argparse import Namespace
 from collections import Counter
 from concurrent.futures import ThreadPoolExecutor
 from pathlib import Path
+from typing import Any, Callable, Dict, List, Tuple, Union
 
 from tools.checks.preloaded import built
 from tools.checks.tallies import TrialParser, answer_of, statuses_told
@@ -92,7 +96,7 @@ NO_MEMORY = (7, b"no memory\n")
 class Files:
     """What is served, and the program, in a folder that every user may read."""
 
-    def __init__(self, asked, room):
+    def __init__(self, asked: Namespace, room: str) -> None:
         self.room, self.seconds = room, asked.seconds
         os.chmod(room, 0o755)
         self.program, self.policy, self.scripts = f"{room}/program", f"{room}/policy.json", [f"{room}/{name}.txt" for name in ("script", "other")]
@@ -102,10 +106,10 @@ class Files:
         for path, base in zip(self.scripts, ("", "pidbase 40000\n")):
             Path(path).write_text(SCRIPT % base)
 
-    def run(self, words, **limits):
+    def run(self, words: Any, **limits: Union[Callable[..., Any], Dict[str, str]]) -> Any:
         return answer_of([self.program, *words], self.seconds, **limits)
 
-    def words(self, form, workers, cpus):
+    def words(self, form: str, workers: int, cpus: int) -> List[str]:
         pair = [self.policy, self.scripts[0]]
         if form in ("pod", "pod lanes"):
             return ["pod", str(workers) if form == "pod" else "lanes", str(cpus), *pair, self.policy, self.scripts[1]]
@@ -139,18 +143,18 @@ class Tally:
     def __init__(self, title):
         self.title, self.statuses, self.faults = title, Counter(), 0
 
-    def note(self, what, status, wrong):
+    def note(self, what: str, status: int, wrong: Any) -> None:
         self.statuses[status] += 1
         if wrong is not None:
             self.faults += 1
             print(f"failing-threads: {what}: {wrong}", flush=True)
 
-    def tell(self):
+    def tell(self) -> int:
         print(f"{self.title}: {statuses_told(self.statuses)}; {self.faults} at fault", flush=True)
         return self.faults
 
 
-def tried(asked, tally, runs):
+def tried(asked: Namespace, tally: Tally, runs: List[Tuple[str, Callable[..., Any]]]) -> int:
     """Makes the runs, several at once. Each is what it is called, and a function that gives its status and what is wrong with it."""
     with ThreadPoolExecutor(asked.jobs) as pool:
         for (what, _), (status, wrong) in zip(runs, pool.map(lambda run: run[1](), runs)):
@@ -158,9 +162,9 @@ def tried(asked, tally, runs):
     return tally.tell()
 
 
-def refused_threads(asked, files, wanted, library, form):
+def refused_threads(asked: Namespace, files: Files, wanted: bytes, library: str, form: str) -> int:
     """Has each creation of a thread fail in turn, and all from each on, and gives how many runs are at fault."""
-    def run(words, variable, number):
+    def run(words: Any, variable: str, number: int) -> Any:
         answer = files.run(words, env={"LD_PRELOAD": library, variable: str(number)})
         return answer.status, files.fault(form, answer, wanted)
 
@@ -183,12 +187,12 @@ def refused_threads(asked, files, wanted, library, form):
     return faults + tried(asked, Tally(title), runs)
 
 
-def small_spaces(asked, files, wanted):
+def small_spaces(asked: Namespace, files: Files, wanted: bytes) -> int:
     """Limits the address space, and gives how many runs are at fault."""
-    def limit(mebibytes):
+    def limit(mebibytes: int) -> Callable[..., Any]:
         return lambda: resource.setrlimit(resource.RLIMIT_AS, (mebibytes << 20, mebibytes << 20))
 
-    def run(form, words, mebibytes):
+    def run(form: str, words: Any, mebibytes: int) -> Any:
         answer = files.run(words, preexec_fn=limit(mebibytes))
         is_refused = (answer.status, answer.err.rpartition(b": ")[2]) == NO_MEMORY
         return answer.status, None if is_refused else files.fault(form, answer, wanted)
@@ -203,15 +207,15 @@ def small_spaces(asked, files, wanted):
     return tried(asked, Tally(f"an address space of {enough[0]} to {enough[-1]} MiB, {len(enough)} sizes"), runs)
 
 
-def few_processes(asked, files, wanted):
+def few_processes(asked: Namespace, files: Files, wanted: bytes) -> int:
     """Limits the processes of a user, and gives how many runs are at fault."""
-    def become(user, processes):
+    def become(user: int, processes: int) -> None:
         resource.setrlimit(resource.RLIMIT_NPROC, (processes, processes))
         os.setgroups([])
         os.setgid(user)
         os.setuid(user)
 
-    def run(form, words, user, processes):
+    def run(form: str, words: Any, user: int, processes: int) -> Any:
         answer = files.run(words, preexec_fn=lambda: become(user, processes))
         return answer.status, files.fault(form, answer, wanted)
 

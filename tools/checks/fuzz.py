@@ -15,6 +15,8 @@ second run answers differently, or if an end of a range isn't accepted or refuse
 the report of the play, if it refuses a report at a line before the first change, or if it doesn't refuse a policy or a script as the play
 does. The input is left in the folder that is named.
 """
+from __future__ import annotations
+
 import json
 import os
 import random
@@ -25,8 +27,10 @@ import shutil
 import signal
 import tempfile
 import time
+from argparse import Namespace
 from collections import Counter
 from concurrent.futures import ThreadPoolExecutor
+from typing import Any, List, Optional, Tuple
 
 from tools.checks.tallies import TrialParser, statuses_told
 from tools.commands.command_line.top import TOP
@@ -60,7 +64,7 @@ FOUND = rb"yes events=(\d+) finished=(?:yes|no)\n(?:trail \d+ recv=(?:\d+|-) val
 SUMMARY = rb"summary events=\d+ calls=\d+ notified=\d+ answered=\d+ granted=\d+ denied=\d+ passed=\d+ injected=\d+ faults=\d+ gone=\d+ lost=\d+"
 
 
-def is_report(out):
+def is_report(out: bytes) -> bool:
     """Whether it has the four parts, each with as many lines as it says."""
     lines = out.split(b"\n")
     for part in (b"journal", b"calls", b"audit"):
@@ -71,7 +75,7 @@ def is_report(out):
     return len(lines) == 2 and re.fullmatch(SUMMARY, lines[0]) is not None and lines[1] == b""
 
 
-def is_pod(out):
+def is_pod(out: bytes) -> bool:
     """Whether it has a report for each container, and then their sums."""
     try:
         reports, last = parts(out)
@@ -225,7 +229,7 @@ WORDS = [
 ]
 
 
-def around(low, high):
+def around(low: int, high: int) -> List[Tuple[int, bool]]:
     """The edges of a range, and the numbers past them, each with whether it lies inside."""
     return [(number, low <= number <= high) for number in (low - 1, low, high, high + 1)]
 
@@ -265,7 +269,7 @@ def edges():
 # ---- policies that are hard to read
 
 
-def hard_policy(chance):
+def hard_policy(chance: random.Random) -> bytes:
     """One that is deep, or has a long number, all escapes, or keys that stand again."""
     deep = chance.choice([10, 127, 128, 129, 1000, 10_000, 100_000])
     digits = "".join(chance.choices("0123456789", k=chance.choice([1, 20, 309, 10_000])))
@@ -305,7 +309,7 @@ notify w0 w1 w15 w16 w017 t0 t0.1 t0.0 id=1 id=0 worker=0 rule=- events=1 calls=
 POLICY_UNITS = [rb"(?s).", rb'"(?:[^"\\]|\\.)*"|[-+.\w]+|[\[\]{},:]', rb"[^,\n]*[,\n]", rb"\{[^{}]*\}|\[[^\[\]]*\]"]
 
 
-def changed(chance, text, units, words):
+def changed(chance: random.Random, text: bytes, units: Any, words: Any) -> bytes:
     """The text with one to four bytes, tokens, lines or blocks changed, moved, repeated or cut, or cut off there."""
     for _ in range(chance.randint(1, 4)):
         found = [it.span() for it in re.finditer(chance.choice(units), text)]
@@ -328,7 +332,7 @@ def changed(chance, text, units, words):
     return text
 
 
-def scheduled(chance, script):
+def scheduled(chance: random.Random, script: bytes) -> bytes:
     """The script with a schedule at random, of the tasks and workers that it may have."""
     actors = [b"t 0", b"t 0", b"t 0.1", b"t 0.1", b"t 0.2", b"t 0.1.1", b"w 0", b"w 0", b"w 1", b"w 2"]
     steps = [b"%s %d\n" % (chance.choice(actors), chance.randint(1, 4)) for _ in range(chance.randint(5, 80))]
@@ -339,7 +343,7 @@ REPORT_MOST = 100_000
 REPORT_UNITS = [rb"(?s).", rb"\d", rb"\S+", rb"[^\n]*\n"]
 
 
-def exchanged(chance, report):
+def exchanged(chance: random.Random, report: bytes) -> bytes:
     """The report with two neighbouring lines of its journal exchanged, but for their places: a report too, where both could step."""
     lines = report.split(b"\n")
     at = chance.randrange(int(lines[0].split()[1])) or 1
@@ -350,7 +354,7 @@ def exchanged(chance, report):
     return b"\n".join(lines)
 
 
-def damaged(chance, report):
+def damaged(chance: random.Random, report: bytes) -> bytes:
     """The report, whole or with a damage."""
     kind = chance.randrange(8)
     if kind < 2:
@@ -369,11 +373,11 @@ def number_of(token):
         return None
 
 
-def shortened(script):
+def shortened(script: bytes) -> bytes:
     """The script with a schedule of some hundred steps at most."""
     left = 400
 
-    def step(found):
+    def step(found: Any) -> bytes:
         nonlocal left
         count = number_of(found.group(2))
         if count is None or not 1 < count <= 200_000:
@@ -385,7 +389,7 @@ def shortened(script):
     return re.sub(rb"(?m)^([ \t]*[tw][ \t]+\S+[ \t]+)([^\s\"]+)", step, script)
 
 
-def good_inputs(name):
+def good_inputs(name: str) -> List[bytes]:
     """The policies, or the scripts, of the examples and cases, in order; no script with requests, whose workers may do anything."""
     found = []
     for folder in ("examples", "cases"):
@@ -399,13 +403,13 @@ def good_inputs(name):
 class Inputs:
     """The inputs of a seed, by their numbers."""
 
-    def __init__(self, seed):
+    def __init__(self, seed: int) -> None:
         self.seed = seed
         self.policies, self.scripts = good_inputs("policy.json"), good_inputs("script.txt")
         self.edges = list(edges())
         random.Random(seed).shuffle(self.edges)
 
-    def made(self, at):
+    def made(self, at: int) -> Any:
         """The words, the policy, the script, and what is to be said, where that is known."""
         if at % 3 == 0 and at // 3 < len(self.edges):
             words, policy, script, said = self.edges[at // 3]
@@ -426,7 +430,7 @@ class Inputs:
             script = changed(chance, script, SCRIPT_UNITS, SCRIPT_WORDS)
         return PLAY, policy, shortened(script), None
 
-    def report_after(self, at, words, status, printed):
+    def report_after(self, at: int, words: List[str], status: int, printed: bytes) -> Optional[bytes]:
         """The bytes that are checked after a play: its report, whole or damaged, or some where it was refused. None: nothing is checked."""
         chance = random.Random(f"{self.seed} {at} report")
         if words != PLAY or status not in (0, *LINES) or len(printed) > REPORT_MOST or chance.randrange(3) > 0:
@@ -437,7 +441,7 @@ class Inputs:
 # ---- runs
 
 
-def run(program, words, room, asked):
+def run(program: str, words: Any, room: str, asked: Namespace) -> Any:
     """The status, the output and the line of a run, what is wrong with it, and how long it took."""
     begun = time.monotonic()
     out, err = f"{room}/stdout", f"{room}/stderr"
@@ -465,7 +469,7 @@ def run(program, words, room, asked):
     return answer, fault_of(words, *answer), took
 
 
-def run_twice(program, words, room, asked):
+def run_twice(program: str, words: List[str], room: str, asked: Namespace) -> Tuple[Tuple[int, bytes, bytes], Any, float]:
     """What run gives, which is wrong too where a second run answers otherwise."""
     answer, wrong, took = run(program, words, room, asked)
     if wrong is None:
@@ -521,7 +525,7 @@ def write(room, texts):
             file.write(text)
 
 
-def tried(inputs, at, asked, place):
+def tried(inputs: Inputs, at: int, asked: Namespace, place: str) -> Tuple[int, Optional[int], Any, str, float]:
     """The status of the input with this number and that of its check, what is wrong, the folder where it is left, and what the longest run took."""
     words, policy, script, wanted = inputs.made(at)
     room = tempfile.mkdtemp(prefix=f"input-{at}-", dir=place)

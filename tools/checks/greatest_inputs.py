@@ -16,6 +16,7 @@ import sys
 import tempfile
 from argparse import Namespace
 from itertools import chain
+from typing import Any, Callable
 
 from bench.edges import edges
 from bench.inputs import GREATEST
@@ -42,7 +43,7 @@ def arguments() -> Namespace:
     return asked
 
 
-def input_named(name):
+def input_named(name: str) -> Callable[..., Any]:
     if name not in GREATEST:
         sys.exit(f"greatest-inputs: no input has the name {name}: they are {', '.join(GREATEST)}")
     return GREATEST[name]

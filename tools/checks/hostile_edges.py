@@ -6,6 +6,8 @@ A case is good if the status is that of the table in docs/reference/STATUSES.md,
 within a second, and if standard output has the whole report with status 0, or a prefix of it that isn't whole with another status. Other
 lines begin with "differs", and say what came instead.
 """
+from __future__ import annotations
+
 import os
 import resource
 import signal
@@ -15,6 +17,7 @@ import tempfile
 import threading
 import time
 from pathlib import Path
+from typing import Any, BinaryIO, Callable, List, Optional, Tuple, Union
 
 from tools.checks.outputs import closed_pipe
 from tools.commands.command_line import arguments, ending
@@ -36,7 +39,7 @@ class Run:
     program: str
 
     def __init__(self, words=PLAY, out=None, err=None, signals=True, limits=(), closed=()):
-        def limited():
+        def limited() -> None:
             for kind, most in [(resource.RLIMIT_CORE, 0), *limits]:
                 resource.setrlimit(kind, (most, most))
             for number in closed:
@@ -46,7 +49,7 @@ class Run:
         self.run = subprocess.Popen([self.program, *words], stdin=subprocess.DEVNULL, stdout=subprocess.PIPE if out is None else out,
                                     stderr=subprocess.PIPE if err is None else err, restore_signals=signals, preexec_fn=limited)
 
-    def answer(self):
+    def answer(self) -> Tuple[int, bytes, bytes, float]:
         """The status, the output where it is a pipe of ours, the line, and how long it took."""
         try:
             printed, said = self.run.communicate(timeout=4 * SECONDS)
@@ -61,7 +64,7 @@ def write(name, content):
         file.write(content)
 
 
-def played(**ways):
+def played(**ways: Union[BinaryIO, List[Any], int]) -> List[Tuple[int, bytes, bytes, float]]:
     return [Run(**ways).answer()]
 
 
@@ -72,7 +75,7 @@ def into_file(**ways):
     return [(status, Path("out").read_bytes(), said, took)]
 
 
-def from_fifo(name, content):
+def from_fifo(name: str, content: bytes) -> List[Tuple[int, bytes, bytes, float]]:
     """A run for which one file is a named pipe that ends after these bytes."""
     os.remove(name)
     os.mkfifo(name)
@@ -83,11 +86,11 @@ def from_fifo(name, content):
     return answers
 
 
-def while_changed(name, content, mode, change):
+def while_changed(name: str, content: bytes, mode: str, change: Callable[..., Any]) -> List[Tuple[int, bytes, bytes, float]]:
     """Runs while one file, which has this content at first, is changed again and again."""
     over, answers = threading.Event(), []
 
-    def changes():
+    def changes() -> None:
         with open(name, mode) as file:
             while not over.is_set():
                 change(file)
@@ -102,13 +105,13 @@ def while_changed(name, content, mode, change):
     return answers
 
 
-def grows(file):
+def grows(file: BinaryIO) -> None:
     file.write(b" " * 64)
     file.flush()
 
 
-def shrinks(content):
-    def change(file):
+def shrinks(content: bytes) -> Callable[..., Any]:
+    def change(file: BinaryIO) -> None:
         file.truncate(len(content) // 2)
         file.seek(0)
         file.write(content)
@@ -117,7 +120,7 @@ def shrinks(content):
     return change
 
 
-def with_file(name, content=None, make=None, **ways):
+def with_file(name: Union[bytes, str], content: Optional[bytes] = None, make: Optional[Callable[..., Any]] = None, **ways: List[Any]) -> List[Tuple[int, bytes, bytes, float]]:
     """A run where a file has this content, or is made otherwise."""
     if os.path.lexists(name):
         os.remove(name)
@@ -128,23 +131,23 @@ def with_file(name, content=None, make=None, **ways):
     return played(**ways)
 
 
-def bound(name):
+def bound(name: str) -> None:
     socket.socket(socket.AF_UNIX).bind(name)
 
 
-def at_once(count):
+def at_once(count: int) -> List[Tuple[int, bytes, bytes, float]]:
     runs = [Run() for _ in range(count)]
     return [run.answer() for run in runs]
 
 
-def closed_terminal():
+def closed_terminal() -> int:
     """The end of a terminal whose other end has gone."""
     other, terminal = os.openpty()
     os.close(other)
     return terminal
 
 
-def interrupted(after):
+def interrupted(after: float) -> List[Tuple[int, bytes, bytes, float]]:
     """A run that is interrupted so many seconds after it began."""
     run = Run()
     time.sleep(after)
@@ -152,20 +155,20 @@ def interrupted(after):
     return [run.answer()]
 
 
-def interrupted_at_pipe():
+def interrupted_at_pipe() -> List[Tuple[int, bytes, bytes, float]]:
     """A run that is interrupted while it waits for its script."""
     os.remove("script.txt")
     os.mkfifo("script.txt")
     return interrupted(0.1)
 
 
-def interrupted_at_play():
+def interrupted_at_play() -> List[Tuple[int, bytes, bytes, float]]:
     """Runs that are interrupted while they play: what they have printed is a part of their report, or nothing."""
     write("script.txt", BUSY)
     return [answer for after in (0.01, 0.02, 0.04, 0.06, 0.08) for answer in interrupted(after)]
 
 
-def long_into(**ways):
+def long_into(**ways: Union[BinaryIO, List[Tuple[int, int]], bool]) -> List[Tuple[int, bytes, bytes, float]]:
     write("script.txt", LONG)
     return into_file(**ways) if "out" not in ways else played(**ways)
 
@@ -228,7 +231,7 @@ CASES = [
 ]
 
 
-def fault_of(answer, wanted, report):
+def fault_of(answer: Any, wanted: Any, report: bytes) -> Optional[str]:
     """What differs of an answer from what the table says."""
     status, printed, said, took = answer
     if took > SECONDS:
@@ -244,7 +247,7 @@ def fault_of(answer, wanted, report):
     return None
 
 
-def told_of(status, said):
+def told_of(status: int, said: bytes) -> str:
     """How a run ended, in words."""
     if status < 0:
         return f"ended by {signal.Signals(-status).name}"

@@ -2,9 +2,12 @@
 
 A keyword that isn't known here is refused when the schema is read, so that none is passed over.
 """
+from __future__ import annotations
+
 import json
 import re
 from pathlib import Path
+from typing import Any, Callable, Dict, Iterable, Iterator, List, Optional, Tuple, Union
 
 TELL_NOTHING = {"$schema", "$defs", "title", "description", "required"}
 TYPES = {"object": dict, "array": list, "string": str, "boolean": bool, "null": type(None)}
@@ -17,15 +20,15 @@ class Misfit(Exception):
         super().__init__(why)
         self.why, self.place = why, []
 
-    def __str__(self):
+    def __str__(self) -> str:
         return f"at /{'/'.join(map(str, reversed(self.place)))}: {self.why}"
 
 
-def shown(value):
+def shown(value: Any) -> str:
     return json.dumps(value)[:60]
 
 
-def within(key, check, value):
+def within(key: Union[int, str], check: Callable[..., Any], value: Any) -> None:
     """Checks a part of a value."""
     try:
         check(value)
@@ -34,12 +37,12 @@ def within(key, check, value):
         raise
 
 
-def equal(one, other):
+def equal(one: Any, other: str) -> bool:
     """Whether two values are the same; unlike Python's, the numbers 0 and 1 aren't false and true."""
     return type(one) is type(other) and one == other
 
 
-def has_type(value, name):
+def has_type(value: Any, name: str) -> bool:
     return isinstance(value, int) and not isinstance(value, bool) if name == "integer" else isinstance(value, TYPES[name])
 
 
@@ -51,7 +54,7 @@ class Schemas:
         self.known = {}
         self.checks = {name: self.check_of(name, schema) for name, schema in self.read.items()}
 
-    def fault(self, name, document):
+    def fault(self, name: str, document: Dict[str, Any]) -> Optional[str]:
         """What is wrong with a document by the schema of this name, as a text; None where it fits."""
         try:
             self.checks[name](document)
@@ -59,7 +62,7 @@ class Schemas:
             return str(misfit)
         return None
 
-    def check_of(self, name, schema):
+    def check_of(self, name: str, schema: Dict[str, Any]) -> Callable[..., Any]:
         """A function that raises Misfit for a value which doesn't fit a schema of this file."""
         checks = [getattr(self, f"by_{keyword.lstrip('$')}")(name, value, schema) for keyword, value in schema.items() if keyword not in TELL_NOTHING]
         if len(checks) == 1:
@@ -71,7 +74,7 @@ class Schemas:
 
         return check
 
-    def target(self, name, reference):
+    def target(self, name: str, reference: str) -> Tuple[str, Dict[str, Any]]:
         """The file and the schema that a reference names."""
         file, _, pointer = reference.partition("#")
         name = file[:-len(".json")] if file else name
@@ -80,14 +83,14 @@ class Schemas:
             schema = schema[key]
         return name, schema
 
-    def by_ref(self, name, reference, _):
+    def by_ref(self, name: str, reference: str, _: Dict[str, str]) -> Callable[..., Any]:
         file, schema = self.target(name, reference)
         key = file, reference.partition("#")[2]
         if key not in self.known:
             self.known[key] = self.check_of(file, schema)
         return self.known[key]
 
-    def by_type(self, _, wanted, __):
+    def by_type(self, _: str, wanted: str, __: Dict[str, Any]) -> Callable[..., Any]:
         def check(value):
             if not has_type(value, wanted):
                 raise Misfit(f"{shown(value)} is no {wanted}")
@@ -95,17 +98,17 @@ class Schemas:
         has_type(None, wanted)
         return check
 
-    def by_const(self, _, wanted, __):
+    def by_const(self, _: str, wanted: str, __: Dict[str, str]) -> Callable[..., Any]:
         return self.by_enum(_, [wanted], __)
 
-    def by_enum(self, _, wanted, __):
+    def by_enum(self, _: str, wanted: List[str], __: Dict[str, Any]) -> Callable[..., Any]:
         def check(value):
             if not any(equal(value, one) for one in wanted):
                 raise Misfit(f"{shown(value)} is none of {shown(wanted)}")
 
         return check
 
-    def by_pattern(self, _, pattern, __):
+    def by_pattern(self, _: str, pattern: str, __: Dict[str, str]) -> Callable[..., Any]:
         # `$` is the end of the text alone
         form = re.compile(re.sub(r"\$$", r"\\Z", pattern))
 
@@ -115,35 +118,35 @@ class Schemas:
 
         return check
 
-    def by_minimum(self, _, least, __):
+    def by_minimum(self, _: str, least: int, __: Dict[str, Union[int, str]]) -> Callable[..., Any]:
         def check(value):
             if has_type(value, "integer") and value < least:
                 raise Misfit(f"{value} is less than {least}")
 
         return check
 
-    def by_maximum(self, _, most, __):
+    def by_maximum(self, _: str, most: int, __: Dict[str, Union[int, str]]) -> Callable[..., Any]:
         def check(value):
             if has_type(value, "integer") and value > most:
                 raise Misfit(f"{value} is more than {most}")
 
         return check
 
-    def by_minItems(self, _, least, __):
+    def by_minItems(self, _: str, least: int, __: Dict[str, Any]) -> Callable[..., Any]:
         def check(value):
             if isinstance(value, list) and len(value) < least:
                 raise Misfit(f"there are fewer than {least} items")
 
         return check
 
-    def by_maxItems(self, _, most, __):
+    def by_maxItems(self, _: str, most: int, __: Dict[str, Any]) -> Callable[..., Any]:
         def check(value):
             if isinstance(value, list) and len(value) > most:
                 raise Misfit(f"there are more than {most} items")
 
         return check
 
-    def by_items(self, name, schema, _):
+    def by_items(self, name: str, schema: Dict[str, Any], _: Dict[str, Any]) -> Callable[..., Any]:
         item = self.check_of(name, schema)
 
         def check(value):
@@ -152,7 +155,7 @@ class Schemas:
 
         return check
 
-    def by_properties(self, name, properties, schema):
+    def by_properties(self, name: str, properties: Dict[str, Dict[str, Any]], schema: Dict[str, Any]) -> Callable[..., Any]:
         checks = {key: self.check_of(name, one) for key, one in properties.items()}
         required = schema.get("required", [])
 
@@ -168,7 +171,7 @@ class Schemas:
 
         return check
 
-    def by_additionalProperties(self, _, allowed, schema):
+    def by_additionalProperties(self, _: str, allowed: bool, schema: Dict[str, Any]) -> Callable[..., Any]:
         assert allowed is False, "additionalProperties is known here as false alone"
         known = schema["properties"].keys()
 
@@ -178,7 +181,7 @@ class Schemas:
 
         return check
 
-    def by_oneOf(self, name, schemas, _):
+    def by_oneOf(self, name: str, schemas: Any, _: Any) -> Any:
         tag = self.tag(name, schemas)
         checks = [self.check_of(name, one) for one in schemas]
 
@@ -194,7 +197,7 @@ class Schemas:
 
         return check if tag is None else self.by_tag(*tag, checks)
 
-    def tag(self, name, schemas):
+    def tag(self, name: str, schemas: List[Dict[str, Any]]) -> Optional[Tuple[str, List[str]]]:
         """The key and its values, where each of the schemas asks for another value of one key: then at most one of them can fit."""
         resolved = [self.target(name, one["$ref"])[1] if "$ref" in one else one for one in schemas]
         keys = resolved[0].get("properties", {})
@@ -205,7 +208,7 @@ class Schemas:
         return None
 
     @staticmethod
-    def by_tag(key, values, checks):
+    def by_tag(key: str, values: List[str], checks: List[Callable[..., Any]]) -> Callable[..., Any]:
         of_value = dict(zip(values, checks))
 
         def check(value):
@@ -220,7 +223,7 @@ class Schemas:
 # ---- whether a schema sees damages
 
 
-def parts(value, place="/"):
+def parts(value: Any, place: str = "/") -> Iterator[Tuple[str, Any]]:
     """Each list and object in a document, with the keys and numbers that lead to it."""
     if isinstance(value, (dict, list)):
         yield place, value
@@ -228,7 +231,7 @@ def parts(value, place="/"):
             yield from parts(one, f"{place}{key}/")
 
 
-def damages(part):
+def damages(part: Any) -> Iterator[Any]:
     """Damages an object or a list: one key less, one more, or a value of another type. Each is undone when the next is asked for."""
     keys = list(part) if isinstance(part, dict) else range(len(part))
     for key in keys:
@@ -245,7 +248,7 @@ def damages(part):
         del part["unknown"]
 
 
-def undetected(schemas, name, document, optional=()):
+def undetected(schemas: Schemas, name: str, document: Dict[str, Any], optional: Iterable[str] = ()) -> List[Any]:
     """The damages of a document that its schema doesn't see, but for what may be missing."""
     return [f"{place}{what}" for place, part in list(parts(document)) for what in damages(part)
             if schemas.fault(name, document) is None and f"{place}{what}" not in optional]

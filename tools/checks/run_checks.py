@@ -12,6 +12,8 @@ in packages/checks/. The logs are printed in the order of the table below, each 
 
 Exit status: 0 if all passed or were left out, else 1. The last lines name what failed, what was left out and why, and what took longest.
 """
+from __future__ import annotations
+
 import os
 import re
 import shutil
@@ -22,7 +24,7 @@ import threading
 import time
 from concurrent.futures import FIRST_COMPLETED, Future, wait
 from pathlib import Path
-from typing import NamedTuple, Optional
+from typing import Dict, List, NamedTuple, Optional
 
 from tools.commands.command_line.arguments import ToolParser
 from tools.commands.command_line.top import TOP
@@ -44,7 +46,7 @@ class Check(NamedTuple):
     left_out: Optional[int] = None  # the exit status by which it says that the machine lacks what it needs
 
     @property
-    def name(self):
+    def name(self) -> str:
         return Path(self.words.split()[0]).name
 
 
@@ -101,11 +103,11 @@ def log_of(check):
     return LOGS / f"{check.name}.log"
 
 
-def environment():
+def environment() -> Dict[str, str]:
     return {**{name: value for name, value in os.environ.items() if not INHERITED.fullmatch(name)}, "LC_ALL": "C.UTF-8"}
 
 
-def missing(check):
+def missing(check: Check) -> Optional[str]:
     """What the machine or the repository lacks for a check, or None."""
     return next((it for it in check.needs if not ((TOP / it).exists() if "/" in it else shutil.which(it))), None)
 
@@ -138,7 +140,7 @@ class Running:
             seconds = time.monotonic() - begun
         return Ended(None, seconds, "the machine lacks something, as it says above") if status == check.left_out else Ended(status, seconds)
 
-    def end(self):
+    def end(self) -> None:
         with self.lock:
             self.is_over = True
             for process in self.processes:
@@ -152,7 +154,7 @@ def in_thread(work):
     """The result of some work that a thread does."""
     future = Future()
 
-    def done():
+    def done() -> None:
         try:
             future.set_result(work())
         except BaseException as fault:
@@ -162,7 +164,7 @@ def in_thread(work):
     return future
 
 
-def may_begin(check, checks, ended, running):
+def may_begin(check: Check, checks: List[Check], ended: Dict[str, Ended], running: Dict[str, str]) -> bool:
     """Whether a check may begin beside those that run: one that runs alone waits until all others have ended."""
     names = {it.name for it in checks}
     if any(name in names and name not in ended for name in check.after):
@@ -184,7 +186,7 @@ def run_all(checks, jobs, running, told):
     return ended
 
 
-def how(ended):
+def how(ended: Ended) -> str:
     if ended.status is None:
         return f"left out: {ended.why}"
     return f"{'passed' if ended.status == 0 else f'FAILED with status {ended.status}'} in {ended.seconds:.0f} s"
@@ -202,7 +204,7 @@ class Printed:
             print(f"== {check.name}: {how(ended[check.name])}\n{log_of(check).read_text(encoding='utf-8', errors='replace')}", end="", flush=True)
 
 
-def tell(kind, ended, seconds):
+def tell(kind: str, ended: Dict[str, Ended], seconds: int) -> bool:
     longest = sorted(ended, key=lambda name: -ended[name].seconds)[:SHOWN_LONGEST]
     failed = [name for name, it in ended.items() if it.status not in (0, None)]
     out = [f"{name} ({it.why})" for name, it in ended.items() if it.status is None]

@@ -11,13 +11,17 @@ if `audit-check` doesn't accept its report as that of a finished history, or if 
 run without threads. The summaries are compared only if the order of steps can't matter: no task of the script sends a signal or shares its
 memory with another one, and no task couldn't be created because no PID was free.
 """
+from __future__ import annotations
+
 import random
+from argparse import Namespace
 from concurrent.futures import ThreadPoolExecutor
+from typing import List, Tuple
 
 from tools.checks.threaded_runs import UNMADE, answer, counts_alone, fault_of_part, parser_of, rows
 
 
-def words(asked, workers, cpus, every):
+def words(asked: Namespace, workers: int, cpus: int, every: int) -> Tuple[str, List[str]]:
     """The first word of a run with threads, and those after the files."""
     replacing = ["every", str(every)] if asked.replaced else []
     return ("lanes", [str(cpus), *replacing]) if asked.lanes else ("run", [str(workers), str(cpus), *replacing])
@@ -30,7 +34,7 @@ def fault(asked, files, wanted, workers, cpus, every):
     return run.trouble or fault_of_part(asked, files, run.out, every, None if UNMADE.search(run.out) else wanted)
 
 
-def tried(asked, name, files):
+def tried(asked: Namespace, name: str, files: List[str]) -> int:
     """Runs one script, prints what came of it, and gives how many runs are at fault."""
     try:
         wanted = counts_alone(asked, files)
@@ -50,7 +54,7 @@ def tried(asked, name, files):
     return faults
 
 
-def main():
+def main() -> bool:
     asked = parser_of(200, 20.0).with_program()
     faults = {name: tried(asked, name, files) for name, *files in rows(asked.only)}
     print(f"run-many: {len(faults)} scripts, {asked.times * len(faults)} runs, {sum(faults.values())} at fault")

@@ -16,11 +16,15 @@ end as before, whatever stands beside them.
 
 Status 0 where no pod is at fault; else they are listed. It isn't part of the gate.
 """
+from __future__ import annotations
+
 import random
 import re
 import tempfile
+from argparse import Namespace
 from concurrent.futures import ThreadPoolExecutor
 from pathlib import Path
+from typing import Any, Iterator, List, Tuple
 
 from tools.checks.threaded_runs import answer, counts_alone, fault_of_part, parser_of, rows
 from tools.commands.pods import last_line, parts
@@ -32,13 +36,13 @@ CONTAINERS = 8
 RANGE = 4194304 // CONTAINERS
 
 
-def has_range(script):
+def has_range(script: bytes) -> bool:
     """Whether a script has no more PIDs than there are for a container."""
     size = PIDMAX.search(script)
     return size is None or int(size[1]) <= RANGE
 
 
-def placed(script, number):
+def placed(script: bytes, number: int) -> bytes:
     """The script with the range of PIDs of the container with this number."""
     script, line = PIDBASE.sub(b"", script), b"pidbase %d\n" % (number * RANGE)
     size = PIDMAX.search(script)
@@ -46,7 +50,7 @@ def placed(script, number):
     return script[:at] + line + script[at:]
 
 
-def written(room, members):
+def written(room: str, members: List[Tuple[str, str, str]]) -> Iterator[Tuple[str, str]]:
     """The names of the policy's and the script's file of each container, whose scripts are written to the room."""
     for number, (_, policy, script) in enumerate(members):
         path = Path(room, f"script-{number}.txt")
@@ -54,7 +58,7 @@ def written(room, members):
         yield policy, str(path)
 
 
-def served(asked, pairs, hands):
+def served(asked: Namespace, pairs: List[Tuple[str, str]], hands: List[str]) -> List[bytes]:
     """The reports of the containers of a pod."""
     run = answer(asked, "pod", *hands, *(file for files in pairs for file in files))
     if run.trouble:
@@ -81,7 +85,7 @@ def fault(asked, members, hands, every):
     return None
 
 
-def drawn(asked, all_rows, place):
+def drawn(asked: Namespace, all_rows: List[Tuple[str, str, str]], place: int) -> List[Any]:
     """What is wrong with the pod of this draw, and with the one in which one container is another."""
     chance = random.Random(f"{asked.seed} {place}")
     members = [chance.choice(all_rows) for _ in range(chance.randint(1, CONTAINERS))]
@@ -93,7 +97,7 @@ def drawn(asked, all_rows, place):
     return [wrong for wrong in (fault(asked, members, hands, every), fault(asked, changed, hands, every)) if wrong]
 
 
-def main():
+def main() -> bool:
     asked = parser_of(200, 60.0).with_program()
     all_rows, faults = [row for row in rows(asked.only) if has_range(Path(row[2]).read_bytes())], 0
     with ThreadPoolExecutor(asked.jobs) as pool:

@@ -1,10 +1,12 @@
 """The scripts of cases and examples that can be served with threads, and what their reports must have in common."""
+from __future__ import annotations
+
 import fnmatch
 import re
 import tempfile
 from argparse import Namespace
 from pathlib import Path
-from typing import Optional, Sequence
+from typing import Any, Iterator, Optional, Sequence
 
 from tools.checks import replaced
 from tools.checks.tallies import Answer, TrialParser, answer_of
@@ -15,7 +17,7 @@ SHARED = re.compile(rb"^\s*(kill|thread)\b", re.M)
 UNMADE = re.compile(rb"^\d+ t\S* spawn \S+ E", re.M)
 
 
-def rows(only):
+def rows(only: str) -> Iterator[Any]:
     """The names and files of the cases and examples that are run."""
     for kind, report in (("examples", "report.txt"), ("cases", "stdout")):
         for folder in sorted(Path(f"{TOP}/{kind}").iterdir()):
@@ -75,12 +77,12 @@ def split(out):
     return (report + b"\n", (title + ledgers)[1:]) if title else (out, b"")
 
 
-def counts(report):
+def counts(report: bytes) -> bytes:
     """The counts of a report's summary that the number of events doesn't matter to."""
     return re.sub(rb"events=\d+ ", b"", report.splitlines()[-1])
 
 
-def summary_may_vary(script, report):
+def summary_may_vary(script: bytes, report: bytes) -> bool:
     """Whether the order of steps may matter to the summary: a task of the script sends a signal or shares its memory, or a task in the
     report couldn't be created because no PID was free."""
     return bool(SHARED.search(script) or UNMADE.search(report))

@@ -1,4 +1,6 @@
 """Acts that must never reach the machine: each runs against a victim of its own, in namespaces of its own (tests/guard/acts.h)."""
+from __future__ import annotations
+
 import fcntl
 import os
 import re
@@ -7,6 +9,7 @@ import stat
 import subprocess
 import time
 from pathlib import Path
+from typing import Any, List, Tuple
 
 from tools.commands.exploring.runs import Kind
 from tools.commands.exploring.shims import Shim
@@ -38,18 +41,18 @@ FS_IOC_GETFLAGS = 0x80086601
 PAUSE = 0.03
 
 
-def names():
+def names() -> List[str]:
     return [*re.findall(r"^ACT\((\w+)", (SOURCES / "acts.h").read_text(), re.M), *BY_CTYPES, *(f"{name}{OF_FILTER}" for name in BY_FILTER)]
 
 
-def agent_of(name, programs):
+def agent_of(name: str, programs: Path) -> Any:
     return BY_PYTHON if name in BY_CTYPES else [programs / "acts"]
 
 
 class Victim:
     """A process, a folder and sockets that nothing may change."""
 
-    def __init__(self, room, has_mounts):
+    def __init__(self, room: Path, has_mounts: bool) -> None:
         self.folder, self.has_mounts = room / "victim", has_mounts
         self.folder.mkdir()
         (self.folder / "file").write_text("content")
@@ -75,27 +78,27 @@ class Victim:
         return {**found, "process": self.state_of_process(), "sockets": [self.was_reached(it) for it in self.sockets]}
 
     @staticmethod
-    def state_of(path):
+    def state_of(path: Path) -> Tuple[Any, ...]:
         status = path.lstat()
         content = path.read_text() if stat.S_ISREG(status.st_mode) and status.st_mode & 0o400 else ""
         attributes = os.listxattr(path, follow_symlinks=False) if stat.S_ISREG(status.st_mode) else []
         return status.st_mode, status.st_uid, status.st_nlink, status.st_mtime_ns if content else 0, content, attributes, flags_of(path) if content else 0
 
-    def state_of_process(self):
+    def state_of_process(self) -> Any:
         if self.process.poll() is not None:
             return "ended"
         of = Path(f"/proc/{self.process.pid}")
         return sorted(os.sched_getaffinity(self.process.pid)), os.getpriority(os.PRIO_PROCESS, self.process.pid), (of / "oom_score_adj").read_text(), (of / "limits").read_text(), os.getpriority(os.PRIO_PROCESS, 1)
 
     @staticmethod
-    def was_reached(listening):
+    def was_reached(listening: socket.socket) -> bool:
         try:
             listening.accept() if listening.type == socket.SOCK_STREAM else listening.recv(1)
         except BlockingIOError:
             return False
         return True
 
-    def close(self):
+    def close(self) -> None:
         self.process.kill()
         self.process.wait()
         for it in self.sockets:
@@ -113,7 +116,7 @@ def flags_of(path):
             return 0
 
 
-def devices_in(folder):
+def devices_in(folder: Path) -> List[Any]:
     return [os.fspath(it) for it in folder.rglob("*") if stat.S_ISCHR(it.lstat().st_mode)]
 
 

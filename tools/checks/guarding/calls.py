@@ -1,8 +1,10 @@
 """Calls that real brokers make, and what is right of each: tests/guard/calls.h, and calls.txt beside it."""
+from __future__ import annotations
+
 import re
 import shutil
 from pathlib import Path
-from typing import NamedTuple
+from typing import Any, Dict, List, NamedTuple
 
 from tools.commands.exploring.runs import Kind
 from tools.commands.exploring.shims import Shim
@@ -18,7 +20,7 @@ class Expected(NamedTuple):
     text: str
 
 
-def expectations():
+def expectations() -> Dict[str, Expected]:
     """What is right of each call, by its name."""
     found = {}
     for line in (SOURCES / "calls.txt").read_text().split("\n"):
@@ -28,17 +30,17 @@ def expectations():
     return found
 
 
-def is_stream(name):
+def is_stream(name: str) -> bool:
     return name.startswith("stream_")
 
 
-def names():
+def names() -> List[str]:
     in_c = re.findall(r"^CALL\((\w+)", (SOURCES / "calls.h").read_text(), re.M)
     others = [name for name in expectations() if name not in in_c and (not is_stream(name) or shutil.which(CPLUSPLUS))]
     return [*in_c, *others]
 
 
-def agent_of(name, programs):
+def agent_of(name: str, programs: Path) -> Any:
     """The agent that makes a call: in Python, in C++ or in C."""
     if name.startswith(("ctypes_", "python_")):
         return BY_PYTHON

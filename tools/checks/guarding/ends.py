@@ -1,4 +1,6 @@
 """Explorations that are ended by signals, at random times: nothing that they have started or made may be left."""
+from __future__ import annotations
+
 import os
 import random
 import signal
@@ -6,6 +8,7 @@ import subprocess
 import sys
 import time
 from pathlib import Path
+from typing import Any, List, Optional
 
 from tools.checks.guarding.trials import TOP
 
@@ -25,7 +28,7 @@ os.execv(sys.executable, [sys.executable, "-B", sys.argv[1], *sys.argv[2:]])
 LONGEST, LEAVE, PAUSE = 1.0, 60, 0.1
 
 
-def marked(mark):
+def marked(mark: bytes) -> List[int]:
     """The processes that have this mark in their environment, those that have ended left out."""
     found = []
     for place in Path("/proc").iterdir():
@@ -37,7 +40,7 @@ def marked(mark):
     return found
 
 
-def child_of(pid):
+def child_of(pid: int) -> Optional[int]:
     text = Path(f"/proc/{pid}/task/{pid}/children").read_text().split()
     return int(text[0]) if text else None
 
@@ -56,7 +59,7 @@ def target_of(first, name, mark):
         return None
 
 
-def await_target(started, name, mark):
+def await_target(started: subprocess.Popen[Any], name: str, mark: bytes) -> None:
     until = time.monotonic() + LEAVE
     while target_of(started.pid, name, mark) is None and started.poll() is None and time.monotonic() < until:
         time.sleep(PAUSE)
@@ -99,5 +102,5 @@ def wrong_with(number, programs, room):
     return f"{kind.name} to the {name}: these are left: {left}" if any(left) else None
 
 
-def numbers():
+def numbers() -> range:
     return range(len(SIGNALS) * len(TARGETS))

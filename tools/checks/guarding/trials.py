@@ -1,10 +1,12 @@
 """What trials have in common: their programs, and an exploration of one run."""
+from __future__ import annotations
+
 import os
 import shutil
 import subprocess
 import sys
 from pathlib import Path
-from typing import NamedTuple, Optional
+from typing import List, NamedTuple, Optional, Union
 
 from tools.commands.command_line.top import TOP
 from tools.commands.exploring.bounds import Bounds
@@ -33,13 +35,13 @@ class Outcome(NamedTuple):
     broken: tuple
 
 
-def compiled(source, made, *flags, compiler="cc"):
+def compiled(source: Path, made: Path, *flags: str, compiler: str = "cc") -> Path:
     """Compiles a program. Raises subprocess.CalledProcessError."""
     subprocess.run([compiler, *flags, "-o", made, source], check=True, stdin=subprocess.DEVNULL, capture_output=True)
     return made
 
 
-def make_programs(room):
+def make_programs(room: Path) -> None:
     """The library, the agents of tests/guard, and programs that a library can be preloaded into or not."""
     subprocess.run([TOP / "tools/commands/make-shim", room / "shim.so"], check=True, stdin=subprocess.DEVNULL, capture_output=True)
     for name in ("acts", "calls", "takes"):
@@ -64,7 +66,7 @@ def files_of(script):
     return Files(*paths, *read_files(*paths))
 
 
-def tried(command, files, door, shim: Shim, out, bounds=Bounds(PATIENCE)):
+def tried(command: List[Union[Path, str]], files: Files, door: Door, shim: Shim, out: Path, bounds: Bounds = Bounds(PATIENCE)) -> Outcome:
     """Explores a command with no delay; `out` is the file in which it says what it did."""
     found = explore(Setting(files, lambda: [ProcessInstance(command, door, bounds, shim)], None, bounds), 0)
     trouble = next((it.played.trouble for it in found.troubles.values()), None)
@@ -73,5 +75,5 @@ def tried(command, files, door, shim: Shim, out, bounds=Bounds(PATIENCE)):
     return Outcome(written, trouble.kind if trouble else None, trouble.text if trouble else "", broken)
 
 
-def door_in(room):
+def door_in(room: Path) -> Door:
     return Door(os.fspath(room / "door"))
