@@ -3,38 +3,41 @@
 A line without meaning stands behind what is tried. Where what is tried is accepted, that line is the one that is refused, so that
 nothing has to be played.
 """
+from __future__ import annotations
+
 import json
+from typing import Any, Iterator, Tuple
 
 BAD = "nonsense\n"
 PROGRAM = "prog main\nend\n"
 
 
-def main(*lines):
+def main(*lines: str) -> str:
     return "prog main\n" + "".join(f"{line}\n" for line in lines) + "end\n"
 
 
-def many(lines, count):
+def many(lines: str, count: int) -> str:
     """The lines so often, with a number of its own in each place of `{}`."""
     return "".join(lines.format(i) for i in range(count))
 
 
-def chain(depth):
+def chain(depth: int) -> str:
     """Programs that start one another, so deep."""
     return "prog p0\nend\n" + "".join(f"prog p{i + 1}\nspawn p{i}\nend\n" for i in range(depth))
 
 
-def path(length):
+def path(length: int) -> Tuple[str, str]:
     """Lines of directories, and the path of so many bytes, at least 3,842, that lies in them."""
     names = ["d" * 255] * 15
     return "".join(f'dir "/{"/".join(names[:i + 1])}"\n' for i in range(15)), f"/{'/'.join(names)}/".ljust(length, "n")
 
 
-def reg(length):
+def reg(length: int) -> str:
     lines, at = path(length)
     return f'{lines}reg "{at}"\n'
 
 
-def scheduled(*lines):
+def scheduled(*lines: str) -> str:
     return PROGRAM + "schedule\n" + "".join(f"{line}\n" for line in lines)
 
 
@@ -93,7 +96,7 @@ SCRIPTS = [
 ]
 
 
-def rule(**keys):
+def rule(**keys: Any) -> str:
     return json.dumps({"version": 2, "rules": [{"name": "r", "call": "mknod", "then": "grant", **keys}]})
 
 
@@ -111,7 +114,7 @@ POLICIES = [
 ]
 
 
-def edges():
+def edges() -> Iterator[Tuple[str, str, str, int, str]]:
     """What is tried, the policy, the script, and the status and the line with which the program must end."""
     for what, reason, behind, script, most in SCRIPTS:
         for number in (most, most + 1):

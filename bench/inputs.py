@@ -6,7 +6,7 @@ scheduled step is one event, and whoever writes the steps of a call says beside 
 from __future__ import annotations
 
 import json
-from typing import Iterator
+from typing import Any, Dict, Iterator, List, Tuple
 
 COUNTS = ("events", "calls", "notified", "answered", "granted", "denied", "passed", "injected", "faults", "gone", "lost")
 MKNOD = {"config": {"security.syscalls.intercept.mknod": "true"}}
@@ -22,8 +22,10 @@ GRANTED = 9
 class Input:
     """A policy and a script while they are written, and what the summary of the play counts."""
 
-    def __init__(self, policy, *settings):
-        self.policy, self.settings, self.programs, self.schedule = policy, list(settings), {}, []
+    def __init__(self, policy: Dict[str, Any], *settings: str) -> None:
+        self.policy, self.settings = policy, list(settings)
+        self.programs: Dict[str, Tuple[str, ...]] = {}
+        self.schedule: List[str] = []
         self.counts = dict.fromkeys(COUNTS, 0)
         # the start and the close
         self.counts["events"] = 2
@@ -47,7 +49,7 @@ class Input:
         for name, count in counts.items():
             self.counts[name] += count
 
-    def steps(self):
+    def steps(self) -> int:
         return self.counts["events"] - 2
 
     def summary(self) -> str:
@@ -68,16 +70,16 @@ class Input:
     def written_policy(self) -> str:
         return json.dumps(self.policy, separators=(",", ":"))
 
-    def write(self, folder):
+    def write(self, folder: str) -> None:
         """Writes policy.json and script.txt into the folder."""
         with open(f"{folder}/policy.json", "w") as file:
             file.write(self.written_policy())
         with open(f"{folder}/script.txt", "w") as file:
             file.writelines(f"{line}\n" for line in self.script())
 
-    def totals(self):
+    def totals(self) -> Dict[str, int]:
         """What the last program comes to with all that it starts, by the names of LIMITS."""
-        come_to = {}
+        come_to: Dict[str, Dict[str, int]] = {}
         for program, lines in self.programs.items():
             words = [line.split() for line in lines]
             started = [come_to[name] for word, name, *_ in (it + [""] for it in words) if word in ("spawn", "thread")]
@@ -92,7 +94,7 @@ class Input:
         return come_to[program]
 
 
-def stored(line):
+def stored(line: str) -> int:
     """How many bytes a line of a program stores. Quoted bytes are written here without escapes but for \\0."""
     word, *operands = line.split(maxsplit=2)
     if word == "fill":
@@ -100,14 +102,14 @@ def stored(line):
     return len(operands[1].strip('"').replace("\\0", "0")) if word == "poke" else 0
 
 
-def nothing():
+def nothing() -> Input:
     """A script that does nothing: a task starts and the listener is closed."""
     made = Input({})
     made.program("main")
     return made
 
 
-def devices(calls):
+def devices(calls: int) -> Input:
     """One task makes so many device nodes, each with a path of its own, and worker 0 answers."""
     made = Input(MKNOD, 'dir "/dev"', "notify mknod")
     made.program("main", *(line for i in range(calls) for line in (f'poke 0x10000 "/dev/n{i}\\0"', "call mknod 0x10000 0o020666 259")))
@@ -120,7 +122,7 @@ def devices(calls):
     return made
 
 
-def lives(tasks):
+def lives(tasks: int) -> Input:
     """So many tasks, one after another: each is made, makes a call that no filter notifies, ends, and is waited for."""
     made = Input({})
     made.program("child", "call getpid")
@@ -134,7 +136,7 @@ def lives(tasks):
     return made
 
 
-def callers(calls):
+def callers(calls: int) -> Input:
     """Two tasks that make so many calls each, all for one of two nodes. There is no schedule: it is explored."""
     made = Input(MKNOD, "notify mknod")
     made.program("second", *["call mknod 0x10010 0o020666 259"] * calls)
@@ -154,7 +156,7 @@ FIVE_KINDS = {
 }
 
 
-def kinds(tasks, calls):
+def kinds(tasks: int, calls: int) -> Input:
     """So many tasks at once, each of which makes so many calls of five kinds by turns. There is no schedule: threads choose the order."""
     made = Input(FIVE_KINDS, 'dir "/m"', "notify mknod mount setxattr sysinfo openat")
     for task in range(tasks):
@@ -175,7 +177,7 @@ def kinds(tasks, calls):
 # ---- the greatest inputs: each takes a number that divides its size, 1 for the greatest
 
 
-def crowd(tasks, calls):
+def crowd(tasks: int, calls: int) -> Input:
     """So many tasks at once, each of which makes so many nodes with paths of their own. In the schedule they step by turns, and worker 0
     grants each call."""
     made = Input(MKNOD, "notify mknod")
@@ -368,7 +370,7 @@ def copies(divide: int) -> Input:
     return made
 
 
-def filters(divide):
+def filters(divide: int) -> Input:
     """16 filters of 4,096 instructions each, which all run on each of 20,000 calls"""
     count = LIMITS["calls"] // divide
     made = Input({}, *(["filter"] + ["add 1"] * 4_095 + ["ret 0x7fff0000", "end"]) * 16)
@@ -378,7 +380,7 @@ def filters(divide):
     return made
 
 
-def rules(divide):
+def rules(divide: int) -> Input:
     """1,024 rules with the texts of paths that differ at their ends alone, in a policy of just under 1,048,576 bytes, and the calls that
     200,000 steps allow: each is compared with every rule, and passed"""
     rule = {"name": "r0000", "call": "mknod", "when": {"path": ""}, "then": {"deny": "EPERM"}}
@@ -401,7 +403,7 @@ def rules(divide):
     return made
 
 
-def links(divide):
+def links(divide: int) -> Input:
     """20,000 calls of openat that each follow 40 links, whose targets of 4,095 bytes go through 2,046 parts each"""
     count = LIMITS["calls"] // divide
     names = [f"l{i:02}" for i in range(40)] + ["end"]
@@ -412,7 +414,7 @@ def links(divide):
     return made
 
 
-def mounts(divide):
+def mounts(divide: int) -> Input:
     """As many mounts on one directory, each on the one before, as 200,000 steps allow"""
     count = (MOST_STEPS - 3) // 12 // divide
     made = Input(MOUNT, 'dir "/m"', "notify mount")

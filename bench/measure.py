@@ -13,15 +13,16 @@ import subprocess
 import sys
 import threading
 import time
+from typing import Any, Dict, List
 
 KEPT = 4096
 
 
-def main(seconds, megabytes, *command):
+def main(seconds: str, megabytes: str, *command: str) -> None:
     resource.setrlimit(resource.RLIMIT_AS, (int(megabytes) * 1_000_000,) * 2)
     printed, first, last, over = 0, b"", b"", threading.Event()
     begun = time.perf_counter()
-    process = subprocess.Popen(command, stdin=subprocess.DEVNULL, stdout=subprocess.PIPE, stderr=subprocess.PIPE)
+    process: Any = subprocess.Popen(command, stdin=subprocess.DEVNULL, stdout=subprocess.PIPE, stderr=subprocess.PIPE)
     floor = resource.getrusage(resource.RUSAGE_SELF).ru_maxrss
 
     def end() -> None:
@@ -47,19 +48,19 @@ def main(seconds, megabytes, *command):
     print(json.dumps({"status": process.returncode, "over": over.is_set(), "printed": printed, **took, **told}))
 
 
-def measured(program, words, folder, seconds, megabytes):
+def measured(program: str, words: List[str], folder: str, seconds: float, megabytes: int) -> Dict[str, Any]:
     """What a process of its own says of one run of the program, in this folder."""
     command = [sys.executable, "-I", "-S", os.path.abspath(__file__), str(seconds), str(megabytes), os.path.abspath(program), *words]
     return json.loads(subprocess.run(command, cwd=folder, stdout=subprocess.PIPE, check=True).stdout)
 
 
-def memory(run):
+def memory(run: Dict[str, Any]) -> str:
     """The greatest memory of a run in MB, or that it is below what can be told."""
     megabytes = f"{run['kilobytes'] * 1024 / 1e6:.1f}"
     return megabytes if run["kilobytes"] > run["floor"] else f"below {megabytes}"
 
 
-def program_or_exit(name, path):
+def program_or_exit(name: str, path: str) -> str:
     """The program, if it can be run."""
     if not os.access(path, os.X_OK) or not os.path.isfile(path):
         sys.exit(f"{name}: {path} isn't there: ./broker --prove builds the program")

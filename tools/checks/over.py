@@ -2,11 +2,12 @@
 from __future__ import annotations
 
 import sys
+from typing import Optional
 
 from tools.commands.command_line import arguments, command
 
 
-def main() -> int:
+def main() -> Optional[int]:
     if sys.argv[1:2] == [] or sys.argv[1].startswith("-"):
         # (all words after the program are the command's own)
         arguments.none()

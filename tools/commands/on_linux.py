@@ -9,7 +9,6 @@ import signal
 import sys
 import tempfile
 from argparse import Namespace
-from typing import Optional
 
 
 from tools.commands.command_line.arguments import Parser

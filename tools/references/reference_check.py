@@ -37,7 +37,7 @@ def check(policy: str, claims: str) -> int:
     return REFUTING if counted[REFUTED] else 0
 
 
-def main():
+def main() -> int:
     parser = ToolParser()
     parser.add_argument("policy", metavar="POLICY")
     parser.add_argument("claims", metavar="CLAIMS")

@@ -36,7 +36,7 @@ def compare(old_path: str, new_path: str, shows_pairs: bool) -> int:
     return DIFFERENT
 
 
-def main():
+def main() -> int:
     parser = ToolParser()
     parser.add_argument("--pairs", action="store_true")
     parser.add_argument("old")

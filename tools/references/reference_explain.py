@@ -20,7 +20,7 @@ def explain(policy: str, calls: str) -> int:
     return 0
 
 
-def main():
+def main() -> int:
     parser = ToolParser()
     parser.add_argument("policy", metavar="POLICY")
     parser.add_argument("calls", metavar="CALLS")

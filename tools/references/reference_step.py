@@ -11,7 +11,7 @@ from __future__ import annotations
 
 import os
 import sys
-from typing import List, Optional, Tuple
+from typing import BinaryIO, List, Optional, Tuple
 
 from tools.commands.command_line.arguments import ToolParser
 from tools.references.judging.sessions import session_text
@@ -40,7 +40,7 @@ class Lines:
 class Answerer:
     """Answers lines, and writes down what was asked and answered where that is wanted."""
 
-    def __init__(self, session, sink):
+    def __init__(self, session: Session, sink: BinaryIO) -> None:
         self.session, self.sink = session, sink
         path = os.environ.get("SECCOMP_BROKER_SESSION")
         self.written = open(path, "wb") if path else None
@@ -57,7 +57,7 @@ class Answerer:
             self.written.flush()
 
 
-def serve(session, source, sink):
+def serve(session: Session, source: int, sink: BinaryIO) -> None:
     """Answers each line; what was answered is flushed before more is read."""
     lines, answerer = Lines(source), Answerer(session, sink)
     while (whole := lines.read()) is not None:

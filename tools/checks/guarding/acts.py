@@ -9,7 +9,7 @@ import stat
 import subprocess
 import time
 from pathlib import Path
-from typing import Any, List, Tuple
+from typing import Any, Dict, List, Optional, Tuple
 
 from tools.commands.exploring.runs import Kind
 from tools.commands.exploring.shims import Shim
@@ -71,9 +71,9 @@ class Victim:
             if it.type == socket.SOCK_STREAM:
                 it.listen()
 
-    def state(self):
+    def state(self) -> Dict[str, Any]:
         """All that may be changed of it."""
-        found = {it.name: self.state_of(it) for it in sorted(self.folder.iterdir())}
+        found: Dict[str, Any] = {it.name: self.state_of(it) for it in sorted(self.folder.iterdir())}
         found["mounts"] = [line for line in Path("/proc/self/mounts").read_text().split("\n") if os.fspath(self.folder) in line]
         return {**found, "process": self.state_of_process(), "sockets": [self.was_reached(it) for it in self.sockets]}
 
@@ -107,7 +107,7 @@ class Victim:
             subprocess.run(["umount", "-R", self.folder / "mounted"], check=False, stderr=subprocess.DEVNULL)
 
 
-def flags_of(path):
+def flags_of(path: Path) -> Any:
     """The attributes of a file as ioctl_iflags(2) has them; 0 where its file system has none."""
     with open(path, "rb") as file:
         try:
@@ -120,7 +120,7 @@ def devices_in(folder: Path) -> List[Any]:
     return [os.fspath(it) for it in folder.rglob("*") if stat.S_ISCHR(it.lstat().st_mode)]
 
 
-def wrong_with(asked, programs, room, has_namespaces):
+def wrong_with(asked: str, programs: Path, room: Path, has_namespaces: bool) -> Optional[str]:
     """What an act has changed, or that nothing is told of it; None where it is guarded."""
     name = asked.partition(OF_FILTER)[0]
     room.mkdir()
@@ -146,5 +146,5 @@ def wrong_with(asked, programs, room, has_namespaces):
     return None if outcome.kind is Kind.NOT_SUPPORTED else f"nothing is told: {outcome}"
 
 
-def left_out(has_namespaces):
+def left_out(has_namespaces: bool) -> List[str]:
     return [] if has_namespaces else [name for name in names() if OF_NAMESPACES.search(name)]

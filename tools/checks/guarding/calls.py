@@ -4,7 +4,7 @@ from __future__ import annotations
 import re
 import shutil
 from pathlib import Path
-from typing import Any, Dict, List, NamedTuple
+from typing import Any, Dict, List, NamedTuple, Optional
 
 from tools.commands.exploring.runs import Kind
 from tools.commands.exploring.shims import Shim
@@ -40,14 +40,14 @@ def names() -> List[str]:
     return [*in_c, *others]
 
 
-def agent_of(name: str, programs: Path) -> Any:
+def agent_of(name: str, programs: Path) -> List[Any]:
     """The agent that makes a call: in Python, in C++ or in C."""
     if name.startswith(("ctypes_", "python_")):
         return BY_PYTHON
     return [programs / ("streams" if is_stream(name) else "calls")]
 
 
-def wrong_with(name, programs, room):
+def wrong_with(name: str, programs: Path, room: Path) -> Optional[str]:
     """What is wrong with the answer to a call; None where it is right, harmless, or told."""
     room.mkdir()
     door = door_in(room)

@@ -45,13 +45,13 @@ def child_of(pid: int) -> Optional[int]:
     return int(text[0]) if text else None
 
 
-def target_of(first, name, mark):
+def target_of(first: int, name: str, mark: bytes) -> Optional[int]:
     """The process that gets the signal; None where it isn't there yet."""
     try:
         if name == "broker":
             others = [pid for pid in marked(mark) if b"explore-broker" not in Path(f"/proc/{pid}/cmdline").read_bytes()]
             return others[0] if others else None
-        pid = first
+        pid: Optional[int] = first
         for _ in range(TARGETS.index(name)):
             pid = child_of(pid) if pid is not None else None
         return pid
@@ -65,15 +65,15 @@ def await_target(started: subprocess.Popen[Any], name: str, mark: bytes) -> None
         time.sleep(PAUSE)
 
 
-def wrong_with(number, programs, room):
+def wrong_with(number: int, programs: Path, room: Path) -> Optional[str]:
     """What is left behind by an exploration that was ended so, or None."""
     chance = random.Random(number)
     room.mkdir()
     mark = f"{MARK}={number}-{os.getpid()}".encode()
     agent = room / "agent.py"
     agent.write_text(AGENT)
-    words = [TOP / "tools/commands/explore-broker", BROKERS / "policy.json", BROKERS / "scripts/reused.txt", "3", "--no-program", "--jobs", "2", "--shim", programs / "shim.so",
-             "--listener-path", "/run/check-guard.sock", "--", sys.executable, "-B", agent, BROKERS / "agents/listener_path.py", "/run/check-guard.sock"]
+    words: List[Any] = [TOP / "tools/commands/explore-broker", BROKERS / "policy.json", BROKERS / "scripts/reused.txt", "3", "--no-program", "--jobs", "2", "--shim", programs / "shim.so",
+                        "--listener-path", "/run/check-guard.sock", "--", sys.executable, "-B", agent, BROKERS / "agents/listener_path.py", "/run/check-guard.sock"]
     temporary = room / "tmp"
     temporary.mkdir()
     environment = {**os.environ, "TMPDIR": os.fspath(temporary), MARK: mark.decode().partition("=")[2]}

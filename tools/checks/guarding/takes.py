@@ -1,4 +1,9 @@
 """Agents that take more than a run may (tests/guard/takes.c): each has to be told, and ends."""
+from __future__ import annotations
+
+from pathlib import Path
+from typing import Optional
+
 from tools.commands.exploring.bounds import Bounds
 from tools.commands.exploring.runs import Kind
 from tools.commands.exploring.shims import Shim
@@ -11,7 +16,7 @@ TAKES = {
 }
 
 
-def wrong_with(name, programs, room):
+def wrong_with(name: str, programs: Path, room: Path) -> Optional[str]:
     """What is wrong with what is told of an agent that takes too much, or None."""
     room.mkdir()
     bounds, told = TAKES[name]

@@ -60,10 +60,10 @@ def make_programs(room: Path) -> None:
     (room / "set-user-id").chmod(0o4755)
 
 
-def files_of(script):
+def files_of(script: Path) -> Files:
     """The policy of the trials with a script."""
-    paths = (SOURCES / "policy.json", script)
-    return Files(*paths, *read_files(*paths))
+    policy, path = str(SOURCES / "policy.json"), str(script)
+    return Files(policy, path, *read_files(policy, path))
 
 
 def tried(command: List[Union[Path, str]], files: Files, door: Door, shim: Shim, out: Path, bounds: Bounds = Bounds(PATIENCE)) -> Outcome:

@@ -48,9 +48,10 @@ def cells(row: str) -> List[str]:
     return [it.strip().replace("\\|", "|") for it in re.split(r"(?<!\\)\|", row.strip())[1:-1]]
 
 
-def texts(page):
+def texts(page: str) -> Iterator[Text]:
     """The page's paragraphs, items and cells, with the number of the line in which each begins."""
-    begin, parts = 0, []
+    begin = 0
+    parts: List[str] = []
     for number, line in [*prose_lines(page), (0, "")]:
         is_row, is_heading = line.startswith("|"), line.startswith("#")
         if parts and (not line.strip() or is_row or is_heading or ITEM.match(line)):

@@ -15,9 +15,9 @@ class Parser(argparse.ArgumentParser):
     def __init__(self, word: str) -> None:
         super().__init__(prog=word)
 
-    def format_help(self):
+    def format_help(self) -> str:
         known = table.read()
-        return pages.word_page(known, table.entry(known, self.prog), place.command(), place.examples())
+        return pages.word_page(known, table.entry(known, self.prog) or {}, place.command(), place.examples())
 
 
 class ToolParser(argparse.ArgumentParser):

@@ -2,17 +2,20 @@
 
 It is in the folder `bytecode` of $XDG_CACHE_HOME/seccomp_broker, or of ~/.cache/seccomp_broker. Nothing is written beside the tools, be it in a checkout or in a package.
 """
+from __future__ import annotations
+
 import os
 import stat
 import sys
 from _thread import allocate_lock
 from importlib.machinery import SOURCE_SUFFIXES, FileFinder, SourceFileLoader
+from typing import Any, Optional, Sequence, Type
 
 TOOLS = os.path.dirname(os.path.dirname(os.path.dirname(os.path.realpath(__file__))))
 WRITABLE_BY_OTHERS = stat.S_IWGRP | stat.S_IWOTH
 
 
-def made(folders):
+def made(folders: Sequence[str]) -> str:
     """The last of these folders, which are made, for this user alone, where they aren't there."""
     for folder in folders:
         try:
@@ -22,7 +25,7 @@ def made(folders):
     return os.path.realpath(folders[-1])
 
 
-def is_own(folder):
+def is_own(folder: str) -> bool:
     """Whether this user and root alone can put something into a folder, or another one in its place: what is kept there is run as it is."""
     while True:
         found = os.lstat(folder)
@@ -33,7 +36,7 @@ def is_own(folder):
         folder = os.path.dirname(folder)
 
 
-def folder():
+def folder() -> Optional[str]:
     """The folder for the bytecode; None where there can't be one."""
     cache, home = os.environ.get("XDG_CACHE_HOME", ""), os.environ.get("HOME", "")
     if not os.path.isabs(cache):
@@ -45,12 +48,12 @@ def folder():
         return None
 
 
-def loader_over(kept):
+def loader_over(kept: str) -> Type[SourceFileLoader]:
     """The loader of a module whose bytecode is in a folder."""
     turn = allocate_lock()
 
     class Loader(SourceFileLoader):
-        def get_code(self, fullname):
+        def get_code(self, fullname: str) -> Any:
             # (Python asks these two where the bytecode is, and whether to write it; all other modules have theirs where they always had)
             with turn:
                 before = sys.pycache_prefix, sys.dont_write_bytecode
@@ -63,14 +66,14 @@ def loader_over(kept):
     return Loader
 
 
-def keep():
+def keep() -> None:
     """Has the bytecode of all modules of the tools kept that are imported from now on. Where its user wants none (PYTHONDONTWRITEBYTECODE), it isn't."""
     kept = None if sys.flags.dont_write_bytecode else folder()
     if kept is None:
         return
     loader = loader_over(kept)
 
-    def finder(path):
+    def finder(path: str) -> FileFinder:
         if path != TOOLS and not path.startswith(f"{TOOLS}/"):
             raise ImportError(path)
         return FileFinder(path, (loader, SOURCE_SUFFIXES))

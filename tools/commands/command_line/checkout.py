@@ -5,13 +5,14 @@ from __future__ import annotations
 import os
 import shutil
 import sys
+from typing import Optional
 
 from tools.commands.command_line import place, sources, trial
 
 PROVED = f"{place.HOME}/crates/seccomp_broker/out/seccomp_broker"
 
 
-def is_newer_source(path):
+def is_newer_source(path: str) -> bool:
     """Whether a source was changed after the file."""
     made = os.path.getmtime(path)
     return any(os.path.getmtime(f"{place.HOME}/{name}") > made for name in sources.files(place.HOME) if name.endswith((".rt", ".antt")) or name == "crates.txt")
@@ -22,7 +23,7 @@ def is_proved() -> bool:
     return os.access(PROVED, os.X_OK) and not is_newer_source(PROVED)
 
 
-def installed():
+def installed() -> Optional[str]:
     """The path of the program of an installed package of these sources, or None. Standard error says what was found."""
     command = shutil.which("seccomp-broker")
     home = os.path.dirname(os.path.realpath(command)) if command else None
@@ -39,7 +40,7 @@ def installed():
     return f"{home}/seccomp_broker"
 
 
-def program():
+def program() -> str:
     """The path of the program. Raises trial.NotKept and trial.NotMade."""
     if is_proved():
         return PROVED

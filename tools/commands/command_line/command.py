@@ -1,7 +1,10 @@
 """What the command does with its words."""
+from __future__ import annotations
+
 import os
 import signal
 import sys
+from typing import Any, Callable, Dict, List, Optional
 
 from tools.commands.command_line import place, table
 
@@ -11,7 +14,7 @@ HELP_OPTIONS = ("--help", "-h")
 PLAIN = "SECCOMP_BROKER_PLAIN"
 
 
-def run(path, words):
+def run(path: str, words: List[str]) -> int:
     """Runs a file in place of this process, so that its output and its end are the command's. Python ignores two signals; what is run doesn't."""
     for number in (signal.SIGPIPE, signal.SIGXFSZ):
         signal.signal(number, signal.SIG_DFL)
@@ -22,7 +25,7 @@ def run(path, words):
         return WRONG_WORDS
 
 
-def run_program(known, entry, operands, runnable):
+def run_program(known: Dict[str, Any], entry: Dict[str, Any], operands: List[str], runnable: Callable[[], Optional[str]]) -> int:
     """Runs a word of the program. What it refuses is explained, unless its own line alone is asked for."""
     options = table.options(known, entry)
     asked, is_plain = (known[name] in options and operands[:1] == known[name]["names"] for name in ("explain", "plain"))
@@ -40,24 +43,24 @@ def run_program(known, entry, operands, runnable):
     return running.run(path, entry, operands, place.command(), asked)
 
 
-def run_tool(found, words):
+def run_tool(found: Dict[str, Any], words: List[str]) -> Optional[int]:
     """Runs a tool in this process, as if it had been called by its path."""
     from tools.commands.command_line import entry
     sys.argv = [found["word"], *words]
     return entry.loaded(table.module_name(found)).main()
 
 
-def show(text):
+def show(text: str) -> int:
     sys.stdout.write(text)
     return 0
 
 
-def list_of(known):
+def list_of(known: Dict[str, Any]) -> str:
     from tools.commands.command_line import pages
     return pages.list_page(known, place.command(), place.examples(), place.about() is None, place.documents())
 
 
-def unknown(known, word):
+def unknown(known: Dict[str, Any], word: str) -> int:
     command, is_checkout = place.command(), place.about() is None
     options = [name for it in known["options"] if is_checkout or "only" not in it for name in it["names"]]
     what = f"there is no command {word!r}{table.meant(word, options if word.startswith('-') else table.names(known))}"
@@ -69,7 +72,7 @@ def unknown(known, word):
     return WRONG_WORDS
 
 
-def help_of(known, words):
+def help_of(known: Dict[str, Any], words: List[str]) -> int:
     """The list, or the page of one word."""
     if not words or words[0] in (table.HELP, *HELP_OPTIONS):
         return show(list_of(known))
@@ -80,7 +83,7 @@ def help_of(known, words):
     return show(pages.word_page(known, entry, place.command(), place.examples()))
 
 
-def main(words, runnable=place.runnable):
+def main(words: List[str], runnable: Callable[[], Optional[str]] = place.runnable) -> Optional[int]:
     """Does what the words say. `runnable` answers the path of the program, or None."""
     known = table.read()
     if not words:

@@ -6,18 +6,19 @@ import io
 import os
 import signal
 import sys
+from typing import Any, Callable, Dict, NoReturn
 
 READ_FAULT, WRITE_FAULT, NO_MEMORY, INTERRUPTED = 2, 6, 7, 130
 OUT, ERR = 1, 2
 WANTS = (errno.ENOMEM, errno.EAGAIN, errno.EMFILE, errno.ENFILE)
 
 
-def name():
+def name() -> str:
     """The executable's name, as its lines on standard error begin."""
     return os.path.basename(sys.argv[0])
 
 
-def say(text):
+def say(text: str) -> None:
     """A line on standard error; where that fails, nothing can be said."""
     try:
         print(f"{name()}: {text}", file=sys.stderr, flush=True)
@@ -30,7 +31,7 @@ class Output(io.FileIO):
 
     has_failed = False
 
-    def write(self, data):
+    def write(self, data: Any) -> int:
         try:
             return super().write(data)
         except OSError as fault:
@@ -64,14 +65,15 @@ def guarded_output() -> Output:
     return raw
 
 
-def as_in_foreground():
+def as_in_foreground() -> None:
     """Has what is started from here on begin with SIGINT and SIGQUIT at their defaults: a shell's background job inherits them as ignored."""
-    for number, handler in ((signal.SIGINT, signal.default_int_handler), (signal.SIGQUIT, signal.SIG_DFL)):
+    defaults: Dict[int, Any] = {signal.SIGINT: signal.default_int_handler, signal.SIGQUIT: signal.SIG_DFL}
+    for number, handler in defaults.items():
         if signal.getsignal(number) == signal.SIG_IGN:
             signal.signal(number, handler)
 
 
-def is_want(fault):
+def is_want(fault: BaseException) -> bool:
     """Whether a fault is want of memory, of processes or of descriptors, and no fault of the executable."""
     return isinstance(fault, MemoryError) or getattr(fault, "errno", None) in WANTS or "start new thread" in str(fault)
 
@@ -83,7 +85,7 @@ def reason(fault: OSError) -> str:
     return fault.strerror or str(fault)
 
 
-def run(main):
+def run(main: Callable[[], Any]) -> NoReturn:
     """Ends the process with the status that `main` answers, or raises as SystemExit."""
     raw = guarded_output()
     try:

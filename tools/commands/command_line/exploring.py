@@ -11,7 +11,7 @@ import subprocess
 import sys
 import threading
 import time
-from typing import Any, Dict, List
+from typing import Any, Dict, List, Optional
 
 from tools.commands.messages import running, speaking
 
@@ -36,20 +36,22 @@ class Smaller:
 
     def __init__(self, path: str, operands: List[str]) -> None:
         self.path, self.operands = path, operands
-        self.bound, self.output, self.process = None, b"", None
+        self.bound: Optional[str] = None
+        self.output = b""
+        self.process: Optional[subprocess.Popen[bytes]] = None
         self.over = threading.Event()
         self.lock = threading.Lock()
 
-    def explore(self):
+    def explore(self) -> None:
         for bound in smaller(self.operands[-1]):
             words = [self.path, "explore", *self.operands[:-1], bound]
             with self.lock:
                 if self.over.is_set():
                     return
                 # (in a session of its own it isn't interrupted by the terminal)
-                self.process = subprocess.Popen(words, stdin=subprocess.DEVNULL, stdout=subprocess.PIPE, stderr=subprocess.DEVNULL, start_new_session=True)
-            output = self.process.communicate()[0]
-            if self.process.returncode != 0:
+                process = self.process = subprocess.Popen(words, stdin=subprocess.DEVNULL, stdout=subprocess.PIPE, stderr=subprocess.DEVNULL, start_new_session=True)
+            output = process.communicate()[0]
+            if process.returncode != 0:
                 return
             self.bound, self.output = bound, output
 

@@ -4,11 +4,14 @@ The toolchain compiles a module of LLVM for a trial, without optimisation and wi
 with the same flags but for these two, and its own linker links it. That takes a minute and a half of a processor, so it is done by another process,
 which gives way to others. Where it fails, FOLDER/optimising.log says why, and the checked program stays in use.
 """
+from __future__ import annotations
+
 import contextlib
 import fcntl
 import os
 import subprocess
 import sys
+from typing import Any, Dict, Iterator, TextIO
 
 from tools.commands.command_line import children, place
 
@@ -21,7 +24,7 @@ FLAGS = ("-march=x86-64", "-mllvm", "-no-trap-after-noreturn", "-ffunction-secti
 
 
 @contextlib.contextmanager
-def alone(build):
+def alone(build: str) -> Iterator[bool]:
     """Whether no other process makes such a program of a build beside this one, for as long as this lasts. One at a time is enough: sources change often."""
     with open(f"{os.path.dirname(build)}/{LOCK}", "a") as lock:
         try:
@@ -32,19 +35,19 @@ def alone(build):
             yield True
 
 
-def begin(build):
+def begin(build: str) -> bool:
     """Starts to make the program, where there is a module, no such program, and nobody who makes it. Whether it was started."""
     if not os.path.exists(f"{build}/{MODULE}"):
         return False
     with alone(build) as is_alone:
         if not is_alone:
             return False
-    words = [sys.executable, "-B", "-m", __spec__.name, build]
+    words = [sys.executable, "-B", "-m", __name__, build]
     subprocess.Popen(words, cwd=place.HOME, stdin=subprocess.DEVNULL, stdout=subprocess.DEVNULL, stderr=subprocess.DEVNULL, start_new_session=True)
     return True
 
 
-def is_news(build):
+def is_news(build: str) -> bool:
     """Whether the program has become ready since this was last asked."""
     try:
         os.remove(f"{build}/{NEWS}")
@@ -53,22 +56,22 @@ def is_news(build):
     return True
 
 
-def make(build, log):
+def make(build: str, log: TextIO) -> None:
     """Compiles, links and tries it. Each command that fails raises."""
-    said = {"stdin": subprocess.DEVNULL, "stdout": log, "stderr": log, "cwd": build, "check": True, "preexec_fn": children.end_with_parent}
+    said: Dict[str, Any] = {"stdin": subprocess.DEVNULL, "stdout": log, "stderr": log, "cwd": build, "check": True, "preexec_fn": children.end_with_parent}
     kit = os.path.dirname(subprocess.run(["rt", "doc"], stdin=subprocess.DEVNULL, stdout=subprocess.PIPE, stderr=log, text=True, check=True).stdout.strip())
     tools = f"{kit}/toolchain"
     subprocess.run([f"{tools}/bin/clang", f"--target={TARGET}", f"--sysroot={tools}", *FLAGS, "-O1", "-c", "-x", "ir", MODULE, "-o", "module.o"], **said)
     subprocess.run([f"{kit}/bin/rattle-link", "--target", TARGET, "--toolchain", tools, "-o", "linked", "module.o", f"{kit}/c/libos_c.a", f"{kit}/c/liblibc_c.a"], **said)
     os.chmod(f"{build}/linked", 0o700)
-    if subprocess.run([f"{build}/linked"], **{**said, "check": False}).returncode != 1:
+    if subprocess.run([f"{build}/linked"], **dict(said, check=False)).returncode != 1:
         raise OSError("what was linked doesn't answer the usage line")
     with open(f"{build}/{NEWS}", "wb"):
         pass
     os.rename(f"{build}/linked", f"{build}/{OPTIMISED}")
 
 
-def main(build):
+def main(build: str) -> int:
     os.nice(10)
     with alone(build) as is_alone:
         if not is_alone or not os.path.exists(f"{build}/{MODULE}"):

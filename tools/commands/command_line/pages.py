@@ -63,7 +63,7 @@ def word_page(known: Dict[str, Any], entry: Dict[str, Any], command: str, exampl
     return filled("\n\n".join(parts), command, examples) + "\n"
 
 
-def list_page(known, command, examples, is_checkout, documents):
+def list_page(known: Dict[str, Any], command: str, examples: str, is_checkout: bool, documents: str) -> str:
     """The page that lists all words."""
     kinds = {kind: "\n".join(row(it["word"], it["summary"]) for it in known["words"] if it["kind"] == kind) for kind in ("program", "tool")}
     options = [it for it in known["options"] if is_checkout or it.get("only") != "checkout"]

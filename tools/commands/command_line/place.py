@@ -4,6 +4,7 @@ from __future__ import annotations
 import json
 import os
 import sys
+from typing import Any, Dict, List, Optional
 
 HOME = os.path.dirname(os.path.dirname(os.path.dirname(os.path.dirname(os.path.realpath(__file__)))))
 # what a package says of the program in it; a checkout has none
@@ -11,7 +12,7 @@ ABOUT = f"{HOME}/about.json"
 NOT_PROVED = "broker: this build isn't proved"
 
 
-def about(home=HOME):
+def about(home: str = HOME) -> Optional[Dict[str, Any]]:
     """What is known of an installed program, or None where the folder is a checkout or none."""
     try:
         with open(f"{home}/about.json", encoding="utf-8") as file:
@@ -25,12 +26,12 @@ def command(home: str = HOME) -> str:
     return "seccomp-broker" if os.path.exists(f"{home}/about.json") else "./broker"
 
 
-def examples():
+def examples() -> str:
     """The folder of the examples, as it is shown in commands."""
     return os.path.realpath(f"{HOME}/examples") if os.path.exists(ABOUT) else "examples"
 
 
-def documents():
+def documents() -> str:
     """The last lines of the list of words."""
     known = about()
     if known is None:
@@ -42,7 +43,7 @@ def documents():
             f"What was proved of this program: {share}/proof.txt")
 
 
-def program():
+def program() -> Optional[str]:
     """The path of the program: the installed one, or in a checkout the one of checkout.py. None where it can't be had, and an empty text
     where a trial build can only be made for each run."""
     known = about()
@@ -55,17 +56,17 @@ def program():
     try:
         return checkout.program()
     except (trial.NotKept, trial.NotMade) as fault:
-        trial.say(fault)
+        trial.say(str(fault))
         return "" if isinstance(fault, trial.NotKept) else None
 
 
-def runnable():
+def runnable() -> Optional[str]:
     """The path by which the program is run: that of the program, or of what makes a trial build for each run. None where neither can be had."""
     path = program()
     return None if path is None else path or f"{HOME}/tools/commands/try"
 
 
-def said_by(*words):
+def said_by(*words: str) -> Optional[str]:
     """What a command prints, or None where it fails or isn't there."""
     import subprocess
     try:
@@ -75,7 +76,7 @@ def said_by(*words):
     return ended.stdout.strip() if ended.returncode == 0 else None
 
 
-def state_of_checkout():
+def state_of_checkout() -> str:
     """Whether the program that a checkout runs is proved, as a text."""
     from tools.commands.command_line import checkout
     if not os.access(checkout.PROVED, os.X_OK):
@@ -83,7 +84,7 @@ def state_of_checkout():
     return "yes" if checkout.is_proved() else "no: a source is newer than the proved program, so ./broker runs a trial build"
 
 
-def version_lines():
+def version_lines() -> List[str]:
     """What --version prints."""
     known = about()
     if known is not None:

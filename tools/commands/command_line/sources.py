@@ -4,11 +4,14 @@ It is what this prints at the top of a checkout:
 
     find HANDLES crates.txt crates -name out -prune -o -type f -print0 | LC_ALL=C sort -z | xargs -0 sha256sum | sha256sum
 """
+from __future__ import annotations
+
 import hashlib
 import os
+from typing import List
 
 
-def files(top):
+def files(top: str) -> List[str]:
     """The files, from the top on, in the order of their bytes."""
     found = ["HANDLES", "crates.txt"]
     for at, folders, names in os.walk(f"{top}/crates"):
@@ -17,12 +20,12 @@ def files(top):
     return sorted(found, key=os.fsencode)
 
 
-def checksum_of_file(path):
+def checksum_of_file(path: str) -> str:
     with open(path, "rb") as file:
         return hashlib.sha256(file.read()).hexdigest()
 
 
-def checksum(top):
+def checksum(top: str) -> str:
     lines = "".join(f"{checksum_of_file(f'{top}/{name}')}  {name}\n" for name in files(top))
     return hashlib.sha256(lines.encode()).hexdigest()
 

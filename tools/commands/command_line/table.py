@@ -3,7 +3,7 @@ from __future__ import annotations
 
 import json
 import os
-from typing import Any, Dict, List
+from typing import Any, Dict, Iterable, List, Optional
 
 FOLDER = os.path.dirname(os.path.realpath(__file__))
 # words of the command itself, beside those of the table
@@ -15,7 +15,7 @@ def read() -> Dict[str, Any]:
         return json.load(file)
 
 
-def entry(table, word):
+def entry(table: Dict[str, Any], word: str) -> Optional[Dict[str, Any]]:
     """The table's entry of a word, be it by a name that it had before, or None."""
     return next((it for it in table["words"] if word in (it["word"], it.get("before"))), None)
 
@@ -31,7 +31,7 @@ def options(table: Dict[str, Any], entry: Dict[str, Any]) -> List[Dict[str, Any]
     return [table["explain"], table["plain"]] * reads + entry.get("options", [])
 
 
-def names(table):
+def names(table: Dict[str, Any]) -> List[str]:
     return [it["word"] for it in table["words"]] + [HELP]
 
 
@@ -49,7 +49,7 @@ def distance(one: str, other: str) -> int:
     return rows[-1][-1]
 
 
-def near(word, known):
+def near(word: str, known: Iterable[str]) -> Optional[str]:
     """The known word that is so near to another one that it may have been meant, whatever the case of its letters; None where none is."""
     folded = {it.lower(): it for it in known}
     if not folded or not word:
@@ -60,7 +60,7 @@ def near(word, known):
     return folded[found] if begins or distance(word, found) <= min(3, max(1, len(word) // 3)) else None
 
 
-def meant(word, known):
+def meant(word: str, known: Iterable[str]) -> str:
     """What is said of the known word that is near, if one is."""
     found = near(word, known)
     return f"; did you mean {found!r}?" if found else ""

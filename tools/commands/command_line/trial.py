@@ -20,7 +20,7 @@ import struct
 import subprocess
 import sys
 import time
-from typing import List
+from typing import Callable, Iterator, List, Optional
 
 from tools.commands.command_line import children, optimising, place
 from tools.commands.command_line.optimising import MODULE, OPTIMISED
@@ -93,7 +93,7 @@ def folder() -> str:
     return f"{cache()}/trial-{checksum.hexdigest()}"
 
 
-def is_whole(file):
+def is_whole(file: str) -> bool:
     """Whether a file is a program that wasn't cut: its table of sections, which is the last thing in it, is there."""
     try:
         with open(file, "rb") as program:
@@ -107,7 +107,7 @@ def is_whole(file):
     return 0 < at and at + length * count <= size
 
 
-def usable(build):
+def usable(build: str) -> Optional[str]:
     """The program of a build that is to be run; None where none is there. If one is damaged, that is told, and the build is removed."""
     for file in (f"{build}/{OPTIMISED}", f"{build}/{CHECKED}"):
         if os.access(file, os.X_OK) and os.stat(file).st_uid == os.geteuid():
@@ -122,7 +122,7 @@ def usable(build):
 
 
 @contextlib.contextmanager
-def locked(where):
+def locked(where: str) -> Iterator[None]:
     """Keeps other calls from building in the folder."""
     with open(f"{where}/lock", "a") as lock:
         try:
@@ -134,7 +134,7 @@ def locked(where):
 
 
 @contextlib.contextmanager
-def ended_by_signals():
+def ended_by_signals() -> Iterator[None]:
     """Has signals end this process by an exception, so that what it has started ends before it."""
     before = {number: signal.signal(number, lambda got, _: sys.exit(128 + got)) for number in ENDING}
     try:
@@ -154,7 +154,7 @@ def keep_module(room: str) -> None:
                 os.rename(linked, kept)
 
 
-def opened_for_writing(pipe, run, meanwhile):
+def opened_for_writing(pipe: str, run: subprocess.Popen[bytes], meanwhile: Callable[[], None]) -> Optional[int]:
     """The pipe's end for writing, once somebody reads at the other one; None where the run ends before. `meanwhile` is called again and again until then."""
     while run.poll() is None:
         meanwhile()
@@ -168,7 +168,7 @@ def opened_for_writing(pipe, run, meanwhile):
 
 
 @contextlib.contextmanager
-def waiting_program(room):
+def waiting_program(room: str) -> Iterator[str]:
     """The file of a trial build whose program waits for its policy. The toolchain removes it as soon as that has ended."""
     pipe, end = f"{room}/policy", None
     os.mkfifo(pipe)
@@ -195,12 +195,12 @@ def waiting_program(room):
             run.wait()
 
 
-def runs(program):
+def runs(program: str) -> bool:
     """Whether a file is a program that answers the usage line where it has no words."""
     return subprocess.run([program], stdin=subprocess.DEVNULL, stdout=subprocess.DEVNULL, stderr=subprocess.DEVNULL).returncode == 1
 
 
-def make(build, room):
+def make(build: str, room: str) -> None:
     """Makes a build in a room of its own, and keeps it once it is whole and runs."""
     if os.statvfs(room).f_flag & os.ST_NOEXEC:
         raise OSError(errno.EACCES, "no program may run there")
@@ -229,7 +229,7 @@ def remove_old(where: str) -> None:
         shutil.rmtree(path) if os.path.isdir(path) else os.remove(path)
 
 
-def keep(build):
+def keep(build: str) -> None:
     """Makes the build, where no other call makes it meanwhile."""
     # (the calls behind the first one don't need it)
     import tempfile
@@ -245,7 +245,7 @@ def keep(build):
         raise NotKept(f"the trial build can't be kept in {where}: {error.strerror}") from None
 
 
-def program():
+def program() -> str:
     """The path of the program. It is made in one to two minutes where none of these sources is kept. Standard error says which it is."""
     build = folder()
     file = usable(build)

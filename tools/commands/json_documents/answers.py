@@ -2,7 +2,7 @@
 from __future__ import annotations
 
 import re
-from typing import Any, Dict, Iterator, List, Tuple
+from typing import Any, Callable, Dict, Iterator, List, Pattern, Tuple
 
 from tools.commands.json_documents.judgements import verdict_line, verdict_of
 from tools.commands.json_documents.lines import Lines
@@ -21,7 +21,7 @@ REPORT, SCRIPT, JUDGED = re.compile(rf"report ({DIGITS})"), re.compile(rf"script
 # a line behind which so many bytes stand
 SIZED = re.compile(rb"(report|script) (\d+)\n")
 # the other answers, each with what it is
-PLAIN = (
+PLAIN: Tuple[Tuple[Pattern[str], Callable[..., Dict[str, Any]]], ...] = (
     (re.compile(rf"able((?: {NAME})*)( recv)?"), lambda tasks, receive: {"kind": "able", "tasks": tasks.split(), "can_receive": receive is not None}),
     (re.compile("skip"), lambda: {"kind": "skip"}),
     (re.compile(rf"error ({ERRNO})"), lambda error: {"kind": "error", "error": error}),
@@ -48,7 +48,7 @@ def without_scripts(data: bytes) -> Tuple[bytes, List[bytes]]:
     return b"".join(kept), scripts
 
 
-def answer_of(lines, scripts):
+def answer_of(lines: Lines, scripts: Iterator[bytes]) -> Dict[str, Any]:
     """The next answer, which is a line, of `report` with the lines of a report, of `judge` with that of a judgement, and of `script` with those in whose place a script stood, which is taken from `scripts`."""
     line = lines.next
     lines.at += 1
@@ -91,21 +91,21 @@ def report_at(lines: Lines, length: int) -> Dict[str, Any]:
         raise NotAReport(first + fault.line, fault.why) from None
 
 
-def step_of(line, number):
+def step_of(line: str, number: int) -> Dict[str, Any]:
     """A step, with what a worker is told of it beside the event; `number` is the line's."""
     received, read = RECEIVED.fullmatch(line), READ.fullmatch(line)
     fields = received and NOTIFICATION.fullmatch(received[2])
     event = event_in((received or read or [line, line])[1], number)
     if received and not fields or event.get("result", {}).get("kind") in ("received", "bytes") and not (received or read):
         raise NotAReport(number, "the fields of a notification, or the bytes that were read, should stand behind the event")
-    if received:
+    if fields:
         return {"kind": "received", "event": event, "notification": OF_NOTIFICATION.read(fields.groups())}
     return {"kind": "read", "event": event, "bytes": HEX_OR_DASH.read(read[2])} if read else {"kind": "event", "event": event}
 
 
-def answers_of(data):
-    kept, scripts = without_scripts(data)
-    lines, scripts, answers = Lines(kept), iter(scripts), []
+def answers_of(data: bytes) -> Dict[str, Any]:
+    kept, stored = without_scripts(data)
+    lines, scripts, answers = Lines(kept), iter(stored), []
     while lines.are_left:
         answers.append(answer_of(lines, scripts))
     return {"answers": answers}
@@ -116,19 +116,19 @@ def answer_lines(document: Dict[str, Any]) -> Iterator[str]:
         yield from WRITTEN[answer["kind"]](answer)
 
 
-def judgement_text(answer):
+def judgement_text(answer: Dict[str, Any]) -> Iterator[str]:
     verdict = verdict_line(answer["judgement"])
     yield f"judge {len(verdict) + 1}"
     yield verdict
 
 
-def report_text(answer):
+def report_text(answer: Dict[str, Any]) -> Iterator[str]:
     report = list(report_lines(answer["report"]))
     yield f"report {sum(len(line) + 1 for line in report)}"
     yield from report
 
 
-def script_text(answer):
+def script_text(answer: Dict[str, Any]) -> Iterator[str]:
     script = bytes_of(answer["script"])
     yield f"script {len(script)}"
     yield from script.decode("latin-1").split("\n")[:-1]

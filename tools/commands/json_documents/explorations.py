@@ -2,7 +2,7 @@
 from __future__ import annotations
 
 import re
-from typing import Any, Dict, Iterator
+from typing import Any, Dict, Iterator, List
 
 from tools.commands.json_documents.lines import Lines
 from tools.commands.json_documents.report import EVENTS
@@ -43,12 +43,12 @@ def did_line(did: Dict[str, Any]) -> str:
     return f" did {'plant ' if event == 'plant' else ''}{EVENTS[event].write(did)}{' ' + did['afterwards'] if did['afterwards'] else ''}"
 
 
-def call_of(lines):
+def call_of(lines: Lines) -> Dict[str, Any]:
     *entered, audit = lines.take(CALL_LINE, "a call, or a schedule,")
     judged = AUDIT_LINE.fullmatch(audit)
     if judged is None and audit != NOT_RECEIVED:
         raise NotAReport(lines.at, "the audit of a call has another form")
-    call = {**ENTERED.read(entered), "audit": judged and JUDGED.read(judged.groups()), "did": []}
+    call: Dict[str, Any] = {**ENTERED.read(entered), "audit": judged and JUDGED.read(judged.groups()), "did": []}
     while lines.next_is(" did "):
         call["did"].append(did_of(lines))
     return call
@@ -81,9 +81,9 @@ def schedule_of(lines: Any) -> Any:
     return turns
 
 
-def outcome_of(lines):
+def outcome_of(lines: Lines) -> Dict[str, Any]:
     number, histories = lines.take(OUTCOME, "an outcome")
-    calls = []
+    calls: List[Dict[str, Any]] = []
     if lines.next_is("none"):
         lines.skip("none")
     else:

@@ -49,9 +49,10 @@ def reason_of(lines: Any) -> Any:
     return {"event": event, "says": says}
 
 
-def broken_of(lines):
+def broken_of(lines: Lines) -> Dict[str, Any]:
     verdict = verdict_of(lines)
-    event = event_in(*lines.take(EVENT_LINE, "the event"), lines.at)
+    words, = lines.take(EVENT_LINE, "the event")
+    event = event_in(words, lines.at)
     if event["place"] != verdict["place"]:
         raise NotAReport(lines.at, f"the event at {verdict['place']} should be here")
     call, = lines.take(CALL_LINE, "the call that it is about")

@@ -17,7 +17,7 @@ KINDS = {"notif": "notification", "bytes": "bytes", "number": "descriptor", "fau
 KEYS = {kind: key for key, kind in KINDS.items()}
 
 
-def answer_of(value: Any) -> Any:
+def answer_of(value: Any) -> Dict[str, Any]:
     if value == "ok":
         return {"kind": "ok"}
     (key, told), = value.items()
@@ -29,8 +29,11 @@ def answer_value(answer: Dict[str, str]) -> Union[Dict[str, str], str]:
     return kind if kind == "ok" else {KEYS[kind]: answer["bytes" if kind == "notification" else kind]}
 
 
-def ledger_of(line):
-    place, worker, text = LEDGER.fullmatch(line).groups()
+def ledger_of(line: str) -> Dict[str, Any]:
+    found = LEDGER.fullmatch(line)
+    if found is None:
+        raise ValueError(line)
+    place, worker, text = found.groups()
     values = json.loads(text)
     if list(values) != ["count", "own", "worker"] or f"w{values['worker']}" != worker:
         raise ValueError(text)

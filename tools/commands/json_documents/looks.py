@@ -2,7 +2,7 @@
 from __future__ import annotations
 
 import re
-from typing import Any, Dict
+from typing import Any, Callable, Dict, Optional, Pattern, Tuple
 
 from tools.commands.json_documents.values import text_of, quoted_of
 from tools.commands.pages.reports import ERRNO, NAME, NUMBER as DIGITS, TEXT as QUOTED
@@ -12,8 +12,8 @@ FILE, ERROR, LISTENER = re.compile(rf"look file ({DIGITS})"), re.compile(rf"look
 NODE = re.compile(rf"look node ({DIGITS}) (?:(dir|reg|fifo|sock)|(chr|blk) ({DIGITS}):({DIGITS})|link ({QUOTED}))")
 
 
-def node_of(ordinal, plain, device, major, minor, target):
-    node = {"kind": plain or device or "link", **({"major": major, "minor": minor} if device else {}), **({"target": text_of(target)} if target else {})}
+def node_of(ordinal: str, plain: Optional[str], device: Optional[str], major: Optional[str], minor: Optional[str], target: Optional[str]) -> Dict[str, Any]:
+    node: Dict[str, Any] = {"kind": plain or device or "link", **({"major": major, "minor": minor} if device else {}), **({"target": text_of(target)} if target else {})}
     return {"kind": "node", "ordinal": int(ordinal), "node": node}
 
 
@@ -23,7 +23,7 @@ def node_words(seen: Dict[str, Any]) -> str:
     return f"node {seen['ordinal']} {node['kind']}{device}{target}"
 
 
-FORMS = (
+FORMS: Tuple[Tuple[Pattern[str], Callable[..., Dict[str, Any]]], ...] = (
     (TASK, lambda name, parent, state: {"kind": "task", "name": name, "parent": int(parent), "state": state}),
     (re.compile("look none"), lambda: {"kind": "none"}),
     (re.compile("look console"), lambda: {"kind": "console"}),
@@ -42,7 +42,7 @@ WORDS = {
 }
 
 
-def look_of(line):
+def look_of(line: str) -> Optional[Dict[str, Any]]:
     """What the answer to a look tells; None of another line."""
     for form, read in FORMS:
         found = form.fullmatch(line)

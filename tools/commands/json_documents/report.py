@@ -1,7 +1,7 @@
 """A report as a part of a document, and back."""
 from __future__ import annotations
 
-from typing import TYPE_CHECKING, Any, Dict, Iterator
+from typing import TYPE_CHECKING, Any, Dict, Iterator, Optional
 
 from tools.commands.json_documents.requests import REQUEST
 from tools.commands.json_documents.values import (
@@ -72,10 +72,10 @@ def counts_words(counts: Dict[str, int]) -> str:
     return " ".join(f"{name}={counts[name]}" for name in reports.COUNTED)
 
 
-def counts_of(words: str) -> Any:
+def counts_of(words: str) -> Optional[Dict[str, int]]:
     """The counts of a line, behind its first word."""
     counts = reports.SUMMARY.fullmatch(f"summary {words}")
-    return counts and dict(zip(reports.COUNTED, map(int, counts.groups())))
+    return dict(zip(reports.COUNTED, map(int, counts.groups()))) if counts else None
 
 
 def report_lines(report: Dict[str, Any]) -> Iterator[str]:

@@ -32,13 +32,16 @@ REQUEST_LINES = {
 REQUESTS = {kind: (re.compile(line), form) for kind, (line, form) in REQUEST_LINES.items()}
 
 
-def request_of(words):
+def request_of(words: str) -> Dict[str, Any]:
     """A request; one of another call has the call's name alone."""
     kind = words.split(" ", 1)[0]
     if kind not in REQUESTS or kind == words:
         return {"kind": "other", "call": words}
     line, form = REQUESTS[kind]
-    return {"kind": kind, **form.read(line.fullmatch(words).groups())}
+    found = line.fullmatch(words)
+    if found is None:
+        raise ValueError(words)
+    return {"kind": kind, **form.read(found.groups())}
 
 
 def request_words(request: Dict[str, Any]) -> str:

@@ -7,7 +7,7 @@ from __future__ import annotations
 
 import re
 from collections import namedtuple
-from typing import Any, Dict, Union
+from typing import Any, Dict
 
 Kind = namedtuple("Kind", "read write fields", defaults=(1,))
 
@@ -28,7 +28,7 @@ class Form:
             at += kind.fields
         return values
 
-    def write(self, values):
+    def write(self, values: Dict[str, Any]) -> str:
         return self.text.format_map({name: kind.write(values[name]) for name, kind in self.kinds.items()})
 
 
@@ -57,7 +57,7 @@ def text_of(quoted: str) -> str:
     return text_of_bytes(unescaped(quoted[1:-1].encode("ascii")))
 
 
-def quoted(content):
+def quoted(content: bytes) -> str:
     """Bytes between quotes, as a report has them."""
     escaped = TO_ESCAPE.sub(lambda found: b"\\" + found[0] if found[0] in b'"\\' else b"\\x%02x" % found[0][0], content)
     return f'"{escaped.decode("ascii")}"'
@@ -73,41 +73,41 @@ def quoted_of(text: str) -> str:
 BARE = {"ok", "continue", "restarted", "ended", "open", "pid"}
 
 
-def result_of(word: str) -> Dict[str, str]:
+def result_of(word: str) -> Dict[str, Any]:
     if word in BARE:
         return {"kind": word}
     return {"kind": "error", "error": word} if word.startswith("E") else {"kind": "value", "value": word}
 
 
-def result_word(result: Any) -> str:
+def result_word(result: Dict[str, Any]) -> str:
     return result.get(result["kind"], result["kind"])
 
 
-def started_of(pid, memory, error):
+def started_of(pid: str, memory: str, error: str) -> Dict[str, Any]:
     return result_of(error) if error else {"kind": "started", "pid": int(pid), "memory": memory}
 
 
-def started_words(result: Dict[str, Union[int, str]]) -> str:
+def started_words(result: Dict[str, Any]) -> str:
     return f"pid={result['pid']} {result['memory']}" if result["kind"] == "started" else result_word(result)
 
 
-def received_of(notification, pid, error):
+def received_of(notification: str, pid: str, error: str) -> Dict[str, Any]:
     return result_of(error) if error else {"kind": "received", "id": notification, "pid": int(pid)}
 
 
-def received_words(result: Dict[str, Union[int, str]]) -> str:
+def received_words(result: Dict[str, Any]) -> str:
     return f"id={result['id']} pid={result['pid']}" if result["kind"] == "received" else result_word(result)
 
 
-def reaped_of(word: str) -> Dict[str, str]:
+def reaped_of(word: str) -> Dict[str, Any]:
     return result_of(word) if word.startswith("E") else {"kind": "reaped", "task": word}
 
 
-def bytes_read_of(word: str) -> Dict[str, str]:
+def bytes_read_of(word: str) -> Dict[str, Any]:
     return result_of(word) if word.startswith("E") else {"kind": "bytes", "bytes": HEX_OR_DASH.read(word)}
 
 
-def bytes_read_word(result: Dict[str, str]) -> str:
+def bytes_read_word(result: Dict[str, Any]) -> str:
     return HEX_OR_DASH.write(result["bytes"]) if result["kind"] == "bytes" else result_word(result)
 
 
@@ -117,7 +117,7 @@ def verdict_of(words: str) -> Dict[str, Any]:
     return {"kind": kind, **({} if not rest else {"id": rest[0]} if kind == "notify" else {"errno": int(rest[0])})}
 
 
-def verdict_words(verdict: Any) -> str:
+def verdict_words(verdict: Dict[str, Any]) -> str:
     return verdict["kind"] + (f" id={verdict['id']}" if "id" in verdict else f"={verdict['errno']}" if "errno" in verdict else "")
 
 

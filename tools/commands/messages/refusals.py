@@ -181,4 +181,4 @@ def explained_text(path: str, explain: Callable) -> List[str]:
 
 
 def entry_of(word: str) -> Dict[str, Any]:
-    return table.entry(table.read(), word)
+    return table.entry(table.read(), word) or {}

@@ -80,13 +80,13 @@ def time_of(commit_time: str) -> int:
 
 def collect() -> Made:
     program, is_proved = program_of_sources()
-    git = ("git", "-C", TOP)
+    git = ("git", "-C", str(TOP))
     commit = place.said_by(*git, "rev-parse", "HEAD") or "unknown"
     changed = place.said_by(*git, "status", "--porcelain", "--untracked-files=no")
     return Made(version=first_line(f"{TOP}/VERSION"), is_proved=is_proved, program=program, library=library(),
                 toolchain=place.said_by("rt", "version") or "unknown", commit=f"{commit}{', with changes' if changed else ''}",
-                sources=sources.checksum(TOP),
-                maintainer=place.said_by(*git, "log", "-1", "--format=%an <%ae>") or "unknown <unknown@invalid>", time=time_of(place.said_by(*git, "log", "-1", "--format=%ct")))
+                sources=sources.checksum(str(TOP)),
+                maintainer=place.said_by(*git, "log", "-1", "--format=%an <%ae>") or "unknown <unknown@invalid>", time=time_of(place.said_by(*git, "log", "-1", "--format=%ct") or ""))
 
 
 def gate_lines(made):

@@ -4,7 +4,7 @@ from __future__ import annotations
 import json
 import sys
 from argparse import Namespace
-from typing import Any, Dict, List, Optional
+from typing import Any, Dict, List, Optional, Tuple
 
 from tools.commands.command_line import written
 from tools.commands.command_line.arguments import Parser
@@ -22,7 +22,7 @@ MOST_BYTES = 268_435_456
 OF_ANOTHER_FORM = (KeyError, TypeError, ValueError, AttributeError, IndexError)
 
 
-def asked(words: List[str]) -> Optional[Namespace]:
+def asked(words: List[str]) -> Namespace:
     parser = Parser("merge")
     parser.add_argument("-o", "--output", metavar="FILE", help="the file that is written")
     parser.add_argument("files", metavar="FILE", nargs="+", help="the results of parts")
@@ -81,9 +81,11 @@ def bytes_of(path: str) -> bytes:
     return data
 
 
-def read(path):
+def read(path: str) -> Tuple[Any, Any, Any]:
     """What joins results as those at a path, the results, and what they say of their share. Raises NotJoined and OSError."""
     data = bytes_of(path)
+    kind: Any
+    found: Any
     try:
         if data.lstrip()[:1] == b"<":
             kind, found = TestsAsXML, tests.read_xml(data)
@@ -95,7 +97,7 @@ def read(path):
         raise NotJoined("it isn't the result of a part: give --shard I/N, and --json or --junit, to each") from None
 
 
-def read_all(paths: List[str]) -> Any:
+def read_all(paths: List[str]) -> Tuple[Any, List[Any], List[str]]:
     """What joins the results, the results in the order of their shares, and which shares are missing. Raises NotJoined and OSError."""
     known = []
     for path in paths:
@@ -114,18 +116,18 @@ class NotWritten(OSError):
     """A file can't be written."""
 
 
-def write(path, text):
+def write(path: str, text: str) -> None:
     try:
         written.write(path, text.encode("utf-8", "backslashreplace"))
     except OSError as fault:
         raise NotWritten(fault.errno, fault.strerror, path) from None
 
 
-def say(text):
+def say(text: Any) -> None:
     print(f"merge: {text}", file=sys.stderr)
 
 
-def run(words):
+def run(words: Namespace) -> int:
     kind, results, lost = read_all(words.files)
     try:
         whole = kind(results)

@@ -82,7 +82,7 @@ def ending_of(explored: ExploredShare, is_interrupted: bool) -> str:
     return BOUND if explored.is_whole else STOPPED if not explored.is_decided else LIMIT
 
 
-def share_document(explored: ExploredShare, share: Share, of, limit, is_interrupted):
+def share_document(explored: ExploredShare, share: Share, of: str, limit: Optional[int], is_interrupted: bool) -> Dict[str, Any]:
     """The same with what joins it with other shares."""
     told = {"index": share.index, "count": share.count, "of": of, "limit": limit, "ended": ending_of(explored, is_interrupted)}
     return {**document(explored), "shard": told, "schedules": explored.schedules}

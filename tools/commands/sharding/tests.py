@@ -1,7 +1,7 @@
 """Results of test files, as JSON documents or as XML: what joins those of shares."""
 from __future__ import annotations
 
-from typing import Any, Dict, Iterator, List, Optional, Tuple, Union
+from typing import Any, Dict, Iterable, Iterator, List, Optional, Sequence, Tuple, Union
 from xml.etree import ElementTree
 
 from tools.commands.sharding.shares import Described, NotJoined, Share, share
@@ -75,15 +75,15 @@ def joined_xml(roots: List[ElementTree.Element]) -> Tuple[List[junit.Suite], flo
     return suites, longest(roots)
 
 
-def joined_suite(parts):
+def joined_suite(parts: Sequence[ElementTree.Element]) -> junit.Suite:
     cases = [case for it in parts for case in it.findall("testcase")]
     errors = [it for it in cases if it.find("error") is not None]
     kept = {ElementTree.tostring(it).strip(): it for it in errors}.values() if errors else cases
-    return junit.Suite(parts[0].get("name"), sorted(kept, key=lambda it: int(it.get("line"))), longest(parts))
+    return junit.Suite(parts[0].get("name", ""), sorted(kept, key=lambda it: int(it.get("line", "0"))), longest(parts))
 
 
-def longest(elements: Any) -> float:
-    return max(float(it.get("time")) for it in elements)
+def longest(elements: Iterable[ElementTree.Element]) -> float:
+    return max(float(it.get("time", "0")) for it in elements)
 
 
 def lines_xml(suites: List[junit.Suite]) -> Iterator[str]:

@@ -6,10 +6,10 @@ for each combination of the others.
 from __future__ import annotations
 
 import itertools
-from typing import TYPE_CHECKING, Any, Iterable, Iterator, List, NamedTuple, Optional, Tuple, Union
+from typing import TYPE_CHECKING, Any, Callable, Dict, Iterable, Iterator, List, NamedTuple, Optional, Tuple
 
 from tools.commands.real_workloads.script_text import CALLS
-from tools.references.stepping.rules import BITS, OTHER_CALLS, Mknod, Mount, OpenAt, Other, SetXattr, Sysinfo, meets
+from tools.references.stepping.rules import BITS, OTHER_CALLS, Mknod, Mount, OpenAt, Other, Request, SetXattr, Sysinfo, meets
 
 if TYPE_CHECKING:
     from tools.references.stepping.rules import Rule
@@ -27,22 +27,22 @@ FIELD_OF = {
 FIELDS = {
     "mknod": ("path", "node"), "mknodat": ("dirfd", "path", "node"), "mount": ("source", "path", "fstype", "flags"), "setxattr": ("path", "name", "value", "flags"), "openat": ("dirfd", "path"),
 }
-USUAL = {"path": b"/x", "node": (0o100000, 0), "dirfd": -100, "source": b"x", "fstype": b"x", "name": b"x", "value": b"", "flags": 0}
+USUAL: Dict[str, Any] = {"path": b"/x", "node": (0o100000, 0), "dirfd": -100, "source": b"x", "fstype": b"x", "name": b"x", "value": b"", "flags": 0}
 
 
 class Cell(NamedTuple):
     """A call, and the rules that fit it, as the set of their places in one number."""
 
     fitting: int
-    request: object
+    request: Request
 
-    def first(self, begin, end):
+    def first(self, begin: int, end: int) -> Any:
         """The first of some rules that fits, counted from the first of them; None where none does."""
         among = self.fitting >> begin & (1 << end - begin) - 1
         return (among & -among).bit_length() - 1 if among else None
 
 
-def request_of(call, **values):
+def request_of(call: Optional[str], **values: Any) -> Request:
     """A call of a name, by its fields; those that aren't stated are usual ones."""
     it = {**USUAL, **values}
     if call in ("mknod", "mknodat"):
@@ -53,7 +53,7 @@ def request_of(call, **values):
         return SetXattr(it["path"], it["name"], it["value"], it["flags"])
     if call == "openat":
         return OpenAt(it["dirfd"], it["path"], 0)
-    return Sysinfo(0) if call == "sysinfo" else Other(CALLS.get(call, UNNAMED))
+    return Sysinfo(0) if call == "sysinfo" else Other(CALLS.get(call or "", UNNAMED))
 
 
 # ---- the values of each field
@@ -64,17 +64,17 @@ def named(rules: List[Rule], name: str) -> List[Tuple[Any, ...]]:
     return list(dict.fromkeys(it.values for rule in rules for it in rule.conditions if it.name == name))
 
 
-def another(choices: Iterator[Any], taken: Iterable[Union[bytes, int]]) -> Union[bytes, int]:
+def another(choices: Iterator[Any], taken: Iterable[Any]) -> Any:
     return next(it for it in choices if it not in taken)
 
 
-def texts(rules: Any, name: str, longest: int, zeros: bool = False) -> Any:
+def texts(rules: List[Rule], name: str, longest: int, zeros: bool = False) -> List[bytes]:
     """The texts of a field that are named, as far as calls can have them, and another."""
     found = [text for (text,) in named(rules, name) if len(text) <= longest and (zeros or b"\0" not in text)]
     return [*found, another((b"x" * count for count in itertools.count(1)), found)]
 
 
-def paths(rules: Any) -> Any:
+def paths(rules: List[Rule]) -> List[bytes]:
     """As for other texts; below each directory there is another one too, and one that goes up again."""
     known = {text for (text,) in named(rules, "path")}
     found = [*texts(rules, "path", LONGEST_PATH), another((b"/" + b"x" * count for count in itertools.count(1)), known)]
@@ -88,13 +88,13 @@ def makedev(major: int, minor: int) -> int:
     return minor % 256 + major * 256 + minor // 256 * 2**20
 
 
-def nodes(rules):
+def nodes(rules: List[Rule]) -> List[Tuple[int, int]]:
     devices = [makedev(*numbers) for numbers in named(rules, "dev")]
     devices.append(another(itertools.count(makedev(9, 9)), devices))
     return [(mode, device + high) for mode in MODES for device in devices for high in (0, HIGH_BIT)]
 
 
-def descriptors(rules: Any) -> Any:
+def descriptors(rules: List[Rule]) -> List[int]:
     found = [number for (number,) in named(rules, "dirfd")]
     return [*found, another(itertools.count(9), found), another(itertools.chain([-100], itertools.count(9)), found)]
 
@@ -108,7 +108,7 @@ def flag_sets(rules: List[Rule]) -> List[int]:
     return found if len(bits) <= MOST_FLAGS else list(dict.fromkeys([*found, *(sum(bits) - it for it in found)]))
 
 
-VALUES = {
+VALUES: Dict[str, Callable[[List[Rule]], List[Any]]] = {
     "path": paths, "node": nodes, "dirfd": descriptors, "flags": flag_sets,
     "source": lambda rules: texts(rules, "source", LONGEST_PATH), "fstype": lambda rules: texts(rules, "fstype", LONGEST_PATH),
     "name": lambda rules: texts(rules, "name", LONGEST_NAME), "value": lambda rules: texts(rules, "value", LONGEST_VALUE, zeros=True),
@@ -118,13 +118,13 @@ VALUES = {
 # ---- the cells
 
 
-def is_for(rule: Any, call: Optional[str]) -> bool:
+def is_for(rule: Rule, call: Optional[str]) -> bool:
     return call is None if rule.calls == OTHER_CALLS else call in rule.calls
 
 
-def sides(placed, call, field):
+def sides(placed: List[Tuple[int, Rule]], call: Optional[str], field: str) -> List[Tuple[int, Any]]:
     """The values of a field, one for each set of rules whose conditions on it a value meets, with that set."""
-    found = {}
+    found: Dict[int, Any] = {}
     for value in VALUES[field]([rule for _, rule in placed]):
         request = request_of(call, **{field: value})
         met = sum(1 << place for place, rule in placed if all(meets(request, it) for it in rule.conditions if FIELD_OF[it.name] == field))
@@ -132,10 +132,10 @@ def sides(placed, call, field):
     return list(found.items())
 
 
-def cells_of(rules, call):
+def cells_of(rules: List[Rule], call: Optional[str]) -> List[Cell]:
     """The cells of the calls of a name."""
     placed = [(place, rule) for place, rule in enumerate(rules) if is_for(rule, call)]
-    fields = FIELDS.get(call, ())
+    fields = FIELDS.get(call or "", ())
     # what conditions say of a field that the call hasn't, or has always with one value
     usual = request_of(call)
     every = sum(1 << place for place, rule in placed if all(meets(usual, it) for it in rule.conditions if FIELD_OF[it.name] not in fields))

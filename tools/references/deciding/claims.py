@@ -2,7 +2,7 @@
 from __future__ import annotations
 
 import re
-from typing import TYPE_CHECKING, Any, List
+from typing import TYPE_CHECKING, Any, Dict, List, Tuple
 
 from tools.references.deciding.cells import cells
 from tools.references.stepping.facts import quoted
@@ -49,10 +49,10 @@ def read_claims(data: bytes) -> List[Claim]:
     return found
 
 
-def standing(rules, claim):
+def standing(rules: List[Rule], claim: Claim) -> Tuple[str, Dict[int, Any]]:
     """What a claim comes to, and the places of the rules that refute it, each with a call that it decides."""
     fitting = [cell for cell in cells([*rules, claim.rule]) if cell.fitting >> len(rules)]
-    against = {}
+    against: Dict[int, Any] = {}
     for cell in fitting:
         place = cell.first(0, len(rules))
         if not claim.is_borne_out_by(rules[place]):

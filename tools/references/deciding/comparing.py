@@ -1,7 +1,7 @@
 """How two policies differ: each pair of rules that decide a call, one in each, whose answers differ; and calls that one policy counts together, and the other apart."""
 from __future__ import annotations
 
-from typing import TYPE_CHECKING, Any, List, NamedTuple, Optional, Tuple
+from typing import TYPE_CHECKING, Any, Dict, List, NamedTuple, Optional, Tuple
 
 from tools.references.deciding.cells import cells
 from tools.references.stepping.facts import quoted
@@ -20,9 +20,9 @@ class Pair(NamedTuple):
     new: int
 
 
-def pairs(old, new):
+def pairs(old: List[Rule], new: List[Rule]) -> List[Tuple[Pair, Any]]:
     """The pairs of rules that decide, each with a call of which that is so, in the order of the old rule's place, then the new one's."""
-    found = {}
+    found: Dict[Pair, Any] = {}
     for cell in cells([*old, *new]):
         found.setdefault(Pair(cell.first(0, len(old)), cell.first(len(old), len(old) + len(new))), cell.request)
     return sorted(found.items())

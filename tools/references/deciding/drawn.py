@@ -37,7 +37,7 @@ class PairChooser(Chooser):
         super().__init__(chance)
         self.is_hard = is_hard
 
-    def flags(self, call):
+    def flags(self, call: str) -> Dict[str, List[str]]:
         return {key: self.some(FEW_FLAGS[call]) for key in self.some(("all", "none"))}
 
     def rule(self, name: str, profile: bool) -> Dict[str, Any]:
@@ -60,7 +60,7 @@ class PairChooser(Chooser):
             self.chance.choice([self.add, self.drop, self.swap, self.alter, self.reconfigure])(new)
         return old, new
 
-    def crosswise(self):
+    def crosswise(self) -> Tuple[Dict[str, Any], Dict[str, Any]]:
         """What one policy counts by calls, and the other by kinds of nodes."""
         calls, kinds, times = ("mknod", "mknodat"), self.chance.sample(("chr", "fifo", "blk", "sock"), 2), self.chance.choice(TIMES)
         by_calls = [self.limited(f"rule-{call}-{kind}", [call], {"kind": kind}, times) for call in calls for kind in kinds]
@@ -77,11 +77,12 @@ class PairChooser(Chooser):
                  for name, stated in (("with", {"all": [flag]}), ("without", {"none": [flag]}), ("behind", {"all": [other]}))]
         return self.of_rules(rules), self.of_rules(self.chance.sample(rules, self.chance.randrange(1, 4)))
 
-    def split(self):
+    def split(self) -> Tuple[Dict[str, Any], Dict[str, Any]]:
         """A rule that is limited, and the same in two."""
         call, times = self.chance.choice([("mknod", "kind", "fifo"), ("mount", "fstype", "ext4"), ("setxattr", "name", "user.mark")]), self.chance.choice(TIMES)
         whole, part = self.limited("whole", [call[0]], {}, times), self.limited("part", [call[0]], {call[1]: call[2]}, times)
-        return tuple(self.chance.sample([self.of_rules([whole]), self.of_rules([part, whole])], 2))
+        one, other = self.chance.sample([self.of_rules([whole]), self.of_rules([part, whole])], 2)
+        return one, other
 
     @staticmethod
     def limited(name: str, calls: List[str], when: Dict[str, str], times: int) -> Dict[str, Any]:
@@ -120,9 +121,9 @@ class PairChooser(Chooser):
 
     # ---- claims
 
-    def claims(self, policy):
+    def claims(self, policy: Dict[str, Any]) -> Dict[str, Any]:
         """Claims, some of which say what rules of the policy say, or more."""
-        found = {"expect": [], "never": []}
+        found: Dict[str, List[Dict[str, Any]]] = {"expect": [], "never": []}
         for at in range(self.chance.randrange(MOST_CLAIMS)):
             own = [rule for rule in policy.get("rules", ())]
             claim = copy.deepcopy(self.chance.choice(own)) if own and self.chance.random() < 0.6 else self.rule("", True)

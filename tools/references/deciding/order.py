@@ -23,7 +23,7 @@ def number_part(number: int) -> Tuple[int, Tuple[int]]:
     return (int(number != 0), (number,))
 
 
-def descriptor_part(number):
+def descriptor_part(number: int) -> Tuple[int, Tuple[Any, ...]]:
     return (int(number != AT_FDCWD), (number != AT_FDCWD, number < 0, abs(number)))
 
 

@@ -21,7 +21,7 @@ KINDS = {0: "reg", 8: "reg", 1: "fifo", 2: "chr", 4: "dir", 6: "blk", 12: "sock"
 
 
 class Mknod(NamedTuple):
-    dirfd: object
+    dirfd: Optional[int]
     path: bytes
     mode: int
     device: int
@@ -56,6 +56,10 @@ class Sysinfo(NamedTuple):
 
 class Other(NamedTuple):
     number: int
+
+
+# what a call asks for
+Request = Union[Mknod, Mount, SetXattr, OpenAt, Sysinfo, Other]
 
 
 def kind_of(mode: int) -> str:
@@ -187,7 +191,7 @@ class Rule(NamedTuple):
     """A rule: what it fits, and what it says. `error` is that of a denial, `source` and `place` those of an injection, `times` is how often it grants, `via` and `shift` say how a mount is made."""
 
     name: str
-    calls: object
+    calls: Any
     conditions: tuple
     verdict: str
     error: int = 0
