@@ -3,7 +3,7 @@
     tools/checks/check-commands [PROGRAM [PAGE ..]]
 
 PROGRAM takes the place of ./broker and seccomp-broker, with the tools' commands besides its own; without it, that is the program which ./broker
-runs. PAGE is a document; without one, all are tried.
+runs. PAGE is a document, or `help` for the examples of the command's help; without one, all are tried.
 
 In a block of the kind `console` each line that begins with `$ ` is a command, and the lines after it are its standard output; a line that begins
 with `> ` goes on with the command. A command that shows nothing has to end with status 0, or 11. A block after a line that ends with a file's
@@ -21,7 +21,7 @@ import tempfile
 from pathlib import Path
 
 from tools.checks import check_links
-from tools.commands.command_line import table
+from tools.commands.command_line import pages, table
 from tools.commands.command_line.arguments import ToolParser
 from tools.commands.command_line.top import TOP
 from tools.commands.packaging import files, tree
@@ -54,6 +54,7 @@ esac
 """
 FILE = re.compile(r"`([^`]+)`:$")
 MOST_SECONDS, FINDING = 300, 11
+HELP = "help"
 
 
 def fits(shown, text):
@@ -132,19 +133,28 @@ def tried_on(text, room):
     yield from ((command, "it isn't in a block of the kind console\n") for command in not_in_console(text))
 
 
+def examples_of_help(room):
+    """The examples of `help` and of the man page, with what is wrong with each. One with words in capitals or with a pattern is a form."""
+    for command in (pages.filled(it, "seccomp-broker", f"{INSTALLED}/examples") for entry in table.read()["words"] for it in entry.get("examples", [])):
+        if not FORM.search(command) and "*" not in command and not is_not_run(command):
+            ended = room.ended(command)
+            yield f"$ {command}", None if ended.returncode in (0, FINDING) and ended.stdout else f"it ends with status {ended.returncode}, and prints {ended.stdout!r}\n"
+
+
 def tried(page, program, share):
     """Whether each thing that a page shows is so."""
-    text = (TOP / page).read_text(encoding="utf-8")
+    is_help, is_checkout = page == HELP, page not in files.documents()
     with tempfile.TemporaryDirectory(prefix="check-commands-") as folder:
-        for name, fault in tried_on(text, Room(folder, program, share, is_checkout=page not in files.documents())):
+        room = Room(folder, program, share, is_checkout and not is_help)
+        for name, fault in examples_of_help(room) if is_help else tried_on((TOP / page).read_text(encoding="utf-8"), room):
             if fault:
                 print(f"commands: {page}: {name}\n{fault}", end="")
             yield fault is None
 
 
-def exceptions(pages):
+def exceptions(documents):
     """Whether the commands that aren't run are few, and each is still on a page."""
-    texts = [(TOP / page).read_text(encoding="utf-8") for page in pages]
+    texts = [(TOP / page).read_text(encoding="utf-8") for page in documents]
     unused = [it for it in NOT_RUN if not any(it in text for text in texts)]
     print("".join(f"commands: no page has {it!r}: take it from NOT_RUN\n" for it in unused), end="")
     return [len(NOT_RUN) <= 10, not unused]
@@ -155,9 +165,9 @@ def main():
     parser.add_program()
     parser.add_argument("pages", metavar="PAGE", nargs="*")
     asked = parser.with_program()
-    pages = [str(path.relative_to(TOP)) for path in check_links.documents()]
+    documents = [str(path.relative_to(TOP)) for path in check_links.documents()]
     with tempfile.TemporaryDirectory(prefix="check-commands-share-") as share:
         tree.write(files.shared(), share, 0)
-        all_tried = [passed for page in asked.pages or pages for passed in tried(page, asked.program, share)] + exceptions(pages)
+        all_tried = [passed for page in asked.pages or [*documents, HELP] for passed in tried(page, asked.program, share)] + exceptions(documents)
     print(f"commands: {sum(all_tried)} passed, {len(all_tried) - sum(all_tried)} failed")
     return not all(all_tried)

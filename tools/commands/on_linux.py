@@ -10,7 +10,6 @@ import sys
 import tempfile
 from argparse import Namespace
 
-
 from tools.commands.command_line.arguments import Parser
 from tools.commands.linux_stage import areas, changes, changes_of_names, comparison, differences, folders, probes, requirements, stand_in
 from tools.commands.linux_stage.outcome import ALL, DIFFERENT, NOT_KNOWN, Outcome
