@@ -1,8 +1,8 @@
 /*
- * seccomp_step.h - a broker of one's own on the written kernel
+ * seccomp_step.h - your own broker on the simulated kernel
  *
  * A broker that serves seccomp user notifications makes a few calls of the kernel: it receives, asks whether an id is still valid,
- * reads the caller's memory, acts, and answers (seccomp_unotify(2)). With this library it makes them of the written kernel, which the
+ * reads the caller's memory, acts, and answers (seccomp_unotify(2)). With this library it makes them of the simulated kernel, which the
  * program `seccomp-broker step POLICY SCRIPT` runs. A test steps the container's tasks itself, so each race comes when the test wants it.
  * docs/YOUR_BROKER.md is the guide. lib/seccomp_step.c is all of the library, and needs a C library and <linux/seccomp.h> alone.
  *
@@ -17,7 +17,7 @@
  *   -EPROTO     the program's answer can't be understood: it isn't a program that knows `step`, or takes no such number or text
  *   -ENOMEM     there is no memory; a request that wasn't sent has changed nothing
  *
- * Workers. The written kernel has 16 seats for notifications, and `worker` is the number of one. A seat holds a notification from
+ * Workers. The simulated kernel has 16 seats for notifications, and `worker` is the number of one. A seat holds a notification from
  * sb_recv to sb_let_go, with the memory and the directory that were opened for it. A broker that holds several notifications at
  * once, or has several threads, uses one seat for each.
  *
@@ -67,7 +67,7 @@ extern "C" {
 /* How many bytes sb_pread reads at once. */
 #define SB_MOST_READ 4096
 
-/* A written kernel with a container, and the program that runs it. */
+/* A simulated kernel with a container, and the program that runs it. */
 struct sb_kernel;
 
 /* ---- the kernel */

@@ -1,4 +1,4 @@
-/* Tests of the small broker on the written kernel. Each test steps the container's tasks itself, so each order comes as it is wanted. */
+/* Tests of the small broker on the simulated kernel. Each test steps the container's tasks itself, so each order comes as it is wanted. */
 #include "step_broker.h"
 
 #include <errno.h>

@@ -1,4 +1,4 @@
-"""A broker of one's own on the written kernel, which the program `seccomp-broker step POLICY SCRIPT` runs (docs/YOUR_BROKER.md).
+"""Your own broker on the simulated kernel, which the program `seccomp-broker step POLICY SCRIPT` runs (docs/YOUR_BROKER.md).
 
     with Kernel("policy.json", "script.txt") as kernel:
         for line in kernel.steps("0"):
@@ -139,7 +139,7 @@ def channel_to(policy, script, program):
 
 
 class Kernel:
-    """A written kernel with a container, and the way to it."""
+    """A simulated kernel with a container, and the way to it."""
 
     def __init__(self, policy=None, script=None, program=None, channel=None):
         """Starts the program: by default what SECCOMP_BROKER names, or else `seccomp-broker`. Raises OSError with EINVAL where the program

@@ -1,4 +1,4 @@
-"""Tests of the small broker and of seccomp_step on the written kernel: python3 -m unittest step_broker_test, in this folder.
+"""Tests of the small broker and of seccomp_step on the simulated kernel: python3 -m unittest step_broker_test, in this folder.
 
 SECCOMP_BROKER names the program, if it isn't seccomp-broker on the PATH.
 """

@@ -67,7 +67,7 @@ static bool answer_ioctl(struct call *call) {
   tell_of(call->name, "0x%lx on %s", request, path);
 }
 
-/* ---- waiting: what else there is is asked first, without waiting. A timeout above 0 counts as none: no time passes in the written kernel */
+/* ---- waiting: what else there is is asked first, without waiting. A timeout above 0 counts as none: no time passes in the simulated kernel */
 
 /* Whether a call that was given a time waits at all. */
 static bool waits(const struct timespec *given) {

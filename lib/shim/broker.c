@@ -15,7 +15,7 @@
 #include <sys/mman.h>
 #include <unistd.h>
 
-/* What a seat of the written kernel has: whether a notification is in hand there, the number of the thread that has done something for it last, whether it is finished, since the broker
+/* What a seat of the simulated kernel has: whether a notification is in hand there, the number of the thread that has done something for it last, whether it is finished, since the broker
  * has answered it or was told that it has gone, and how many memories and folders were opened for it. A seat is reserved while it is received into, or let go of. */
 struct hand {
   enum { FREE, RESERVED, HELD } state;
@@ -101,7 +101,7 @@ static struct sb_kernel *connection(void) {
   if (error == -EPIPE || error == -ESHUTDOWN || error == -EINVAL)
     leave();
   if (error != 0)
-    tell_of("connect", "to the written kernel: %s", strerror(-error));
+    tell_of("connect", "to the simulated kernel: %s", strerror(-error));
   return opened;
 }
 

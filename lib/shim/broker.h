@@ -18,7 +18,7 @@ void connect_once(const char *call);
 /* Whether the broker has asked the kernel for something, in any of its processes. */
 bool has_begun(void);
 
-/* The result of a call of the written kernel. Where the run is over, so is the broker. */
+/* The result of a call of the simulated kernel. Where the run is over, so is the broker. */
 long result_of(int given);
 /* That of an opening in /proc. Where nobody has the PID Linux says ENOENT, and the broker knows that its caller has gone. */
 long result_of_opening(unsigned seat, int given);

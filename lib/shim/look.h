@@ -1,4 +1,4 @@
-/* look.h - questions to the written kernel that are no events: `look` of `step` */
+/* look.h - questions to the simulated kernel that are no events: `look` of `step` */
 #ifndef SHIM_LOOK_H
 #define SHIM_LOOK_H
 

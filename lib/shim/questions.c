@@ -23,7 +23,7 @@
 /* Where something is: in a container's tree, in its /proc, or in no file system, as a listener. */
 enum whereabouts { IN_TREE, IN_PROC, NOWHERE };
 
-/* What is told of a node: its kind, its number and its device. The written kernel has no owners, modes or times. Folders of /proc have the number of their task. */
+/* What is told of a node: its kind, its number and its device. The simulated kernel has no owners, modes or times. Folders of /proc have the number of their task. */
 struct described {
   uint32_t kind, ordinal, major, minor;
   enum whereabouts where;
@@ -133,7 +133,7 @@ bool answer_statx(struct call *call) {
   return give(call, copy_out((void *)call->a[4], &told, sizeof told));
 }
 
-/* ---- statfs(2): the written kernel has no types or sizes of file systems */
+/* ---- statfs(2): the simulated kernel has no types or sizes of file systems */
 
 static const long types[] = {[IN_TREE] = 0, [IN_PROC] = PROC_SUPER_MAGIC, [NOWHERE] = ANON_INODE_FS_MAGIC};
 
@@ -202,7 +202,7 @@ bool answer_access(struct call *call) {
   if (!describes(call->name, is_at ? (int)call->a[0] : AT_FDCWD, (char *)call->a[is_at], (flags & AT_SYMLINK_NOFOLLOW) == 0, (flags & AT_EMPTY_PATH) != 0, &found, &error))
     return false;
   if (error == 0 && mode != 0 /* F_OK */)
-    tell(call->name, "with a mode, which the written kernel hasn't");
+    tell(call->name, "with a mode, which the simulated kernel hasn't");
   return give(call, error);
 }
 

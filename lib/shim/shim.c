@@ -1,5 +1,5 @@
 /*
- * shim.c - lets a broker as it is, which makes its calls of Linux, serve the written kernel
+ * shim.c - lets a broker as it is, which makes its calls of Linux, serve the simulated kernel
  *
  * A library that is preloaded (ld.so(8), LD_PRELOAD); make-shim makes it, and explore-broker --shim uses it. Every system call of the process is trapped inside the process (gate.c), and answered by the
  * kernel that SECCOMP_BROKER_KERNEL names, made as it is, or told: then the broker ends with status 125 and a line with the call's name. call_list.h says of each call which of these it is. What is made as it is
@@ -9,11 +9,11 @@
  *
  * The listener is the descriptor that SECCOMP_BROKER_LISTENER names, or is passed over a socket as a memory file with the name "seccomp notify" (memfd_create(2)), or comes of seccomp(2).
  *
- * A notification has a seat of the written kernel from its receive on, until the thread that did something for it last receives again, and it is answered or was told to have gone. What is opened by a PID
+ * A notification has a seat of the simulated kernel from its receive on, until the thread that did something for it last receives again, and it is answered or was told to have gone. What is opened by a PID
  * belongs to the notification of that PID that is in hand, the thread's own before another one's.
  *
  * Each thread has a connection of its own, since a call may wait. They are numbered in the order in which they were made: the thread that makes another one connects for it, and the new one asks whether it
- * may begin (a second request `able`). So does the first thread of a child that has a copy of the memory. A program that the broker starts is trapped, too, and can ask the written kernel for nothing.
+ * may begin (a second request `able`). So does the first thread of a child that has a copy of the memory. A program that the broker starts is trapped, too, and can ask the simulated kernel for nothing.
  */
 #define _GNU_SOURCE
 #include "answers.h"

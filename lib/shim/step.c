@@ -1,4 +1,4 @@
-/* step.c - the client of the written kernel, lib/seccomp_step.c, whose calls of the machine are made from the gate */
+/* step.c - the client of the simulated kernel, lib/seccomp_step.c, whose calls of the machine are made from the gate */
 #define _GNU_SOURCE
 #include "gate.h"
 #include "step.h"

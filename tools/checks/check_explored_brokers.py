@@ -2,7 +2,7 @@
 
     tools/checks/check-explored-brokers [--jobs N] [PROGRAM]
 
-All of them run in processes of this program, on the written kernel in Python; so do those of clauses.py, of which each breaks one clause of
+All of them run in processes of this program, on the simulated kernel in Python; so do those of clauses.py, of which each breaks one clause of
 the judge, and which are made of a right one; those of slips.py, with the clause that finds each; and those of styles.py, which are right.
 The broker that they share makes its calls in the order of the simulator's own worker: it has to have as many histories as PROGRAM's
 `explore` counts, and nothing may be found in it. Then the smallest run of each mistake is made once more as its user would make it, with

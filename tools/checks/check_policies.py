@@ -5,7 +5,7 @@
 N pairs are drawn (120). Of `compare` each line but for its call has to be as tools/references/reference-compare has it, of `check` what
 each claim comes to as tools/references/reference-check has it, and of `lint` the findings on rules that are exact as
 tools/references/reference-lint has them, and of damaged policies what is refused and where; a call behind a hint has to be granted. Each
-call that is printed has to be decided by the rule that is printed with it, by `explain` and by the written kernel in Python, and be at most
+call that is printed has to be decided by the rule that is printed with it, by `explain` and by the simulated kernel in Python, and be at most
 each call of the same two rules that brute force finds (`tools/references/deciding/order.py`); for --played of the pairs (20) a call is
 played as a script too, and the audit has to name that rule. (No file of calls has a node of another kind or a device's number of more than
 32 bits, and no line tells these numbers apart; then the kernel in Python alone is asked.)

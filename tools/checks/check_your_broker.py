@@ -192,7 +192,7 @@ def try_script(count: Tally, program: str, files: Files, session: Drawn, name: s
 
 
 def try_changes(count: Tally, program: str, files: Files, script: bytes, name: str, seed: str) -> None:
-    """Plays scripts that are made of one by changes: as the written kernel does."""
+    """Plays scripts that are made of one by changes: as the simulated kernel does."""
     for number in range(CHANGES):
         changed = changed_script(random.Random(f"{seed} {number}"), script)
         count.note(f"{name}, changed {number}", unlike_play(program, files, changed, ended_slowly(files, changed)))

@@ -1,4 +1,4 @@
-"""Makes the library that lets a broker as it is serve the written kernel, for `explore-broker --shim`. `./broker help make-shim` has its words."""
+"""Makes the library that lets a broker as it is serve the simulated kernel, for `explore-broker --shim`. `./broker help make-shim` has its words."""
 from __future__ import annotations
 
 import os

@@ -1,4 +1,4 @@
-"""Explores a script as `explore` does, over the written kernel of tools/references/reference-step, and joins histories that come to the same tables.
+"""Explores a script as `explore` does, over the simulated kernel of tools/references/reference-step, and joins histories that come to the same tables.
 
     tools/references/reference-states [--without FIELD]... [--by-delays] [--counts] POLICY SCRIPT WORKERS DELAYS
 

@@ -1,4 +1,4 @@
-"""Answers the requests of `step` over a written kernel of its own, by what the documents say alone, and plays schedules: of this project's workers, of those of another broker, and of both.
+"""Answers the requests of `step` over a simulated kernel of its own, by what the documents say alone, and plays schedules: of this project's workers, of those of another broker, and of both.
 
     tools/references/reference-step step POLICY SCRIPT
     tools/references/reference-step POLICY SCRIPT

@@ -1,4 +1,4 @@
-// Package step lets a broker of one's own serve the written kernel, which the program `seccomp-broker step POLICY SCRIPT` runs
+// Package step lets your own broker serve the simulated kernel, which the program `seccomp-broker step POLICY SCRIPT` runs
 // (docs/YOUR_BROKER.md).
 //
 // A call that the kernel refuses gives an *Error, which wraps the error of its manual page: errors.Is(err, syscall.ENOENT). With
@@ -133,7 +133,7 @@ func errnoNamed(word string) syscall.Errno {
 	return 0
 }
 
-// Kernel is a written kernel with a container, and the program that runs it; none where it is behind a socket.
+// Kernel is a simulated kernel with a container, and the program that runs it; none where it is behind a socket.
 type Kernel struct {
 	program *exec.Cmd
 	input   io.WriteCloser

@@ -1,4 +1,4 @@
-//! A broker of one's own on the written kernel, which the program `seccomp-broker step POLICY SCRIPT` runs (docs/YOUR_BROKER.md).
+//! Your own broker on the simulated kernel, which the program `seccomp-broker step POLICY SCRIPT` runs (docs/YOUR_BROKER.md).
 //!
 //! ```no_run
 //! # fn main() -> std::io::Result<()> {
@@ -320,7 +320,7 @@ fn variable(name: &str) -> Option<OsString> {
     env::var_os(name).filter(|value| !value.is_empty())
 }
 
-/// A written kernel with a container, and the program that runs it; none where it is behind a socket.
+/// A simulated kernel with a container, and the program that runs it; none where it is behind a socket.
 pub struct Kernel {
     program: Option<Child>,
     input: Option<Box<dyn Write>>,

@@ -1,4 +1,4 @@
-/* Asks with kill(2) whether its caller lives, which the written kernel has no answer to: it can't be tried. */
+/* Asks with kill(2) whether its caller lives, which the simulated kernel has no answer to: it can't be tried. */
 #define _GNU_SOURCE
 #include <linux/seccomp.h>
 #include <signal.h>

@@ -1,7 +1,7 @@
 """Remembers that it has made a node whose answer was lost, and tells it to the call when that is entered anew.
 
 It knows such a call by its PID, its registers and its path, read again and checked. Another task may have got that PID and ask for the very same: so a broker on Linux would hold a pidfd of the
-caller (pidfd_open(2)), and forget the node once that process has ended. The written kernel has no pidfds.
+caller (pidfd_open(2)), and forget the node once that process has ended. The simulated kernel has no pidfds.
 """
 import sys
 from pathlib import Path

@@ -1,1 +1,1 @@
-"""Tries a broker in every order of steps within a bound of delays, on the written kernel, with the judge beside it (docs/YOUR_BROKER.md)."""
+"""Tries a broker in every order of steps within a bound of delays, on the simulated kernel, with the judge beside it (docs/YOUR_BROKER.md)."""

@@ -1,6 +1,6 @@
 """The cells of all calls by which rules fit them: by trying, for each field of a call, the values that a rule names, and some that none names.
 
-Rules are read and tried as by the written kernel (`tools/references/stepping`). Two values of a field that meet the same conditions are one here; so a cell is tried
+Rules are read and tried as by the simulated kernel (`tools/references/stepping`). Two values of a field that meet the same conditions are one here; so a cell is tried
 for each combination of the others.
 """
 from __future__ import annotations

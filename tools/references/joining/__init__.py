@@ -1,1 +1,1 @@
-"""Explores a script over the written kernel in Python, and joins histories that come to the same tables."""
+"""Explores a script over the simulated kernel in Python, and joins histories that come to the same tables."""

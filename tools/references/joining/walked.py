@@ -1,4 +1,4 @@
-"""The written kernel with the written worker, one step after another, and with what came of the calls so far. It keeps no events."""
+"""The simulated kernel with the written worker, one step after another, and with what came of the calls so far. It keeps no events."""
 from __future__ import annotations
 
 import copy

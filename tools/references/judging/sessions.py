@@ -53,7 +53,7 @@ def session_text(exchanges) -> bytes:
 
 
 class Follower:
-    """A written kernel that is asked as the program is, and the judge of what comes of it."""
+    """A simulated kernel that is asked as the program is, and the judge of what comes of it."""
 
     def __init__(self, rules, container, decided=None):
         """`decided` is the judge's."""

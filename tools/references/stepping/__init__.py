@@ -1,1 +1,1 @@
-"""The written kernel in Python, slow and by its documents alone, and what `step` answers over it."""
+"""The simulated kernel in Python, slow and by its documents alone, and what `step` answers over it."""

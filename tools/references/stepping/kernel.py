@@ -1,4 +1,4 @@
-"""The written kernel (docs/KERNEL.md): its tasks, its listener, and what workers may ask it for. Each step is one event, or none where it can't be made."""
+"""The simulated kernel (docs/KERNEL.md): its tasks, its listener, and what workers may ask it for. Each step is one event, or none where it can't be made."""
 from __future__ import annotations
 
 import struct

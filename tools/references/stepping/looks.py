@@ -1,4 +1,4 @@
-"""What `look` tells of the written kernel (docs/reference/STEP.md, A look). It changes nothing."""
+"""What `look` tells of the simulated kernel (docs/reference/STEP.md, A look). It changes nothing."""
 from __future__ import annotations
 
 from typing import TYPE_CHECKING, Any, Optional
