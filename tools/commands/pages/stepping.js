@@ -56,7 +56,7 @@ class Stepping {
     const doing = (actor) => {
       const lane = scene.lanes.findIndex(([name]) => name === actor);
       const place = lane < 0 ? -1 : scene.lane.lastIndexOf(lane);
-      return place < 0 ? "has nothing in hand" : `last: ${scene.words[place]}`;
+      return place < 0 ? "holds no notification" : `last: ${scene.words[place]}`;
     };
     const focused = this.root.contains(document.activeElement) ? document.activeElement.dataset.actor ?? document.activeElement.textContent : null;
     const buttons = able.slice(0, MOST_ACTORS).map((actor) => make("button", { type: "button", class: `able ${actor[0] === "t" ? "task" : "worker"}`, "data-actor": actor, title: doing(actor), onclick: () => this.go([...this.turns, actor]) }, make("b", {}, actorName(actor)), make("small", {}, doing(actor))));
