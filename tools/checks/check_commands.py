@@ -18,6 +18,7 @@ import os
 import re
 import subprocess
 import tempfile
+from functools import lru_cache
 from pathlib import Path
 
 from tools.checks import check_links
@@ -141,9 +142,15 @@ def examples_of_help(room):
             yield f"$ {command}", None if ended.returncode in (0, FINDING) and ended.stdout else f"it ends with status {ended.returncode}, and prints {ended.stdout!r}\n"
 
 
+@lru_cache(maxsize=None)
+def packaged():
+    """The pages that packages have."""
+    return frozenset(files.documents())
+
+
 def tried(page, program, share):
     """Whether each thing that a page shows is so."""
-    is_help, is_checkout = page == HELP, page not in files.documents()
+    is_help, is_checkout = page == HELP, page not in packaged()
     with tempfile.TemporaryDirectory(prefix="check-commands-") as folder:
         room = Room(folder, program, share, is_checkout and not is_help)
         for name, fault in examples_of_help(room) if is_help else tried_on((TOP / page).read_text(encoding="utf-8"), room):

@@ -11,7 +11,7 @@ from typing import Any, Dict, List, Set, Tuple
 from tools.commands.command_line import table
 from tools.commands.packaging import completions, manual, made as making
 from tools.commands.packaging.made import TOP, NotMade
-from tools.commands.packaging.tree import File, Link, below, read, text, zipped
+from tools.commands.packaging.tree import File, Link, below, folders_of, read, text, zipped
 
 HOME, SHARE = "lib/seccomp-broker", "share/seccomp-broker"
 SONAME = "libseccomp_broker.so.1"
@@ -118,16 +118,17 @@ def tools(python: str) -> Dict[str, File]:
 
 
 def documents() -> Dict[str, File]:
-    """README and docs/ without the pages for developers; of a link to a file that isn't among them only the label is left."""
+    """README and docs/ without the pages for developers."""
     found = {"README.md": read(f"{TOP}/README.md"), **below(files_below("docs"), "docs")}
     found = {name: entry for name, entry in found.items() if not name.startswith("docs/inside/")}
-    there = {os.path.dirname(name) for name in found} | set(found)
-    return {name: text(linked_among(there, name, entry.data.decode())) if name.endswith(".md") else entry for name, entry in found.items()}
+    there, elsewhere = ({*names, *folders_of(names)} for names in (found, shared()))
+    return {name: text(LINK.sub(lambda link, name=name: linked(there, elsewhere, name, link), entry.data.decode())) if name.endswith(".md") else entry for name, entry in found.items()}
 
 
-def linked_among(there: Set[str], name: str, page: str) -> str:
-    """A page of that name without its links to files that aren't there."""
-    return LINK.sub(lambda link: link[0] if os.path.normpath(os.path.join(os.path.dirname(name), link[2])) in there else link[1], page)
+def linked(there: Set[str], elsewhere: Set[str], name: str, link: re.Match[str]) -> str:
+    """What is left of a link of the page of that name: all of it if it leads to another page, else its label, with the path if that is below share/seccomp-broker."""
+    path = os.path.normpath(os.path.join(os.path.dirname(name), link[2]))
+    return link[0] if path in there else f"{link[1]} (`{path}`)" if path in elsewhere and path not in link[1] else link[1]
 
 
 def command(made, python="/usr/bin/env python3"):
