@@ -1,14 +1,14 @@
 """Checks how documents are written, by docs/inside/STYLE.md and the table of their pages.
 
     tools/checks/check-style                 checks all documents, and the subjects of commits
-    tools/checks/check-style PAGE ..         prints each finding of these pages with its line
+    tools/checks/check-style PAGE ..         prints each finding of these pages with its line, or of `help`
     tools/checks/check-style --lower         lowers the figures of the list of exceptions that got better
 
 Of each page it counts: `words`, in hundreds, where they are more than the page's number in tools/checks/style/pages.json by over a tenth; `sentences` and
 cells of more than 25 words; `lines` wider than 100 characters, without tables; `breaks`, sentences that don't begin a line; and `replaced`, words for
 which the guide has others (tools/checks/style/replaced.json). Blocks of code and generated parts don't count. `user pages` and `internals` have the words of
-these pages together. tools/checks/style/exceptions.json has the figures that pages may still have. They only fall: a figure above its exception fails, and so
-does one below it, until the list is lowered. A commit that came after this check has a subject of at most 72 characters.
+these pages together, and `help` the sentences and replaced words of the table of commands. tools/checks/style/exceptions.json has the figures that
+pages may still have. They only fall: a figure above its exception fails, and so does one below it, until the list is lowered. A commit that came after this check has a subject of at most 72 characters.
 
 Exit status: 0 where all figures are those of the list, else 1. The last line is `style: N passed, N failed`.
 """
@@ -20,12 +20,15 @@ import subprocess
 from pathlib import Path
 from typing import Any, Dict, Iterator, List, Tuple, Union
 
+from tools.commands.command_line import table as commands
 from tools.commands.command_line.arguments import ToolParser
 from tools.checks.style import markdown
 from tools.commands.command_line.top import TOP
 
 TABLES = Path(__file__).resolve().parent / "style"
 MOST_WORDS, WIDTH, SUBJECT, TOGETHER = 25, 100, 72, 30_000
+# what is counted of the texts of help, which are no lines of a page
+HELP, OF_HELP = "help", ("sentences", "replaced")
 # pages that are a list of their own kind: each line of the changelog is an item, and the guide shows the words that it replaces
 NOT_CHECKED = {"CHANGELOG.md", "docs/inside/STYLE.md"}
 # pages outside of docs/inside that are for contributors alone
@@ -85,6 +88,24 @@ def replaced_words(page):
 FINDINGS = {"sentences": long_sentences, "lines": wide_lines, "breaks": missing_breaks, "replaced": replaced_words}
 
 
+def texts_of_help(part: Any) -> Iterator[str]:
+    """The texts of the table of commands, of which help, the man page and COMMANDS are made."""
+    for name, value in part.items() if isinstance(part, dict) else enumerate(part) if isinstance(part, list) else ():
+        if name in ("summary", "help"):
+            yield value
+        elif name == "text":
+            yield from value
+        elif name == "statuses":
+            yield from (text for _, text in value)
+        else:
+            yield from texts_of_help(value)
+
+
+def page_of(name: str) -> str:
+    """A document, or the texts of help with a paragraph for each."""
+    return "\n\n".join(texts_of_help(commands.read())) if name == HELP else (TOP / name).read_text(encoding="utf-8")
+
+
 def hundreds(count: int) -> int:
     return -(-count // 100) * 100
 
@@ -93,13 +114,14 @@ def figures():
     """The figures of each page that aren't 0, and of the pages together."""
     planned, found, together = table("pages"), {}, {}
     for name in pages():
-        page = (TOP / name).read_text(encoding="utf-8")
+        page = page_of(name)
         count, most = words_in(page), planned.get(name)
         mine = {kind: len(list(find(page))) for kind, find in FINDINGS.items()}
         mine["words"] = hundreds(count) if most and count * 10 > most * 11 else 0
         found[name] = {kind: mine[kind] for kind in KINDS if mine[kind]}
         kind = "internals" if name.startswith("docs/inside/") or name not in planned or name in FOR_CONTRIBUTORS else "user pages"
         together[kind] = together.get(kind, 0) + count
+    found[HELP] = {kind: len(list(FINDINGS[kind](page_of(HELP)))) for kind in OF_HELP}
     return {**{kind: {"words": hundreds(count)} if count > TOGETHER else {} for kind, count in together.items()}, **found}
 
 
@@ -136,9 +158,9 @@ def compared(now: Any, before: Any) -> Iterator[Any]:
 
 def shown(names):
     for name in names:
-        page = Path(name).read_text(encoding="utf-8")
+        page = page_of(HELP) if name == HELP else Path(name).read_text(encoding="utf-8")
         print(f"{name}: {words_in(page)} words")
-        for line, finding in sorted((line, f"{kind}: {finding}") for kind, find in FINDINGS.items() for line, finding in find(page)):
+        for line, finding in sorted((line, f"{kind}: {finding}") for kind in (OF_HELP if name == HELP else FINDINGS) for line, finding in FINDINGS[kind](page)):
             print(f"{name}:{line}: {finding}")
 
 
