@@ -40,7 +40,7 @@ class Subject:
     greatest: int
 
 
-POLICY = Subject("policy", "`{}`, which passes every call", "a rule's `name` can say what the rule is for", "six", 2**32 - 1)
+POLICY = Subject("policy", "`{}`, which passes every call", "a rule's `name` can state its purpose", "six", 2**32 - 1)
 
 
 class NotJson(Exception):

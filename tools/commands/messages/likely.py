@@ -66,7 +66,7 @@ class Likely:
                     right = f"\\x{int(found[0][1:], 8):02x}"
                     start = self.text.starts[line.number - 1] + token.start + found.start()
                     yield self.text.finding("octal-escape", start, start + len(found[0]), f"`{found[0]}` is a zero byte and the digits {found[0][2:]} here; in C it would be one byte",
-                                            f"write `{right}` for that byte, or `\\x00{found[0][2:]}` for what is read")
+                                            f"write `{right}` for that byte, or `\\x00{found[0][2:]}` for the bytes that are read")
 
     # ---- who is asked, and who steps
 

@@ -354,7 +354,7 @@ def flags(at):
 def then(at):
     forms = f"an answer is {joined((it.form for it in words.ANSWERS.values()), 'or')}"
     if at.value is None:
-        return "this rule doesn't say what is done", f'add `"then": ..`; {forms}'
+        return "this rule has no `then`", f'add `"then": ..`; {forms}'
     if at.value.kind not in ("string", "object"):
         return f"an answer is a text or an object, and this is {said(at.value)}", forms
     if at.value.kind == "string" and at.value.plain not in ("grant", "pass"):
@@ -398,7 +398,7 @@ def times(at):
     number = whole(at.value)
     if number is None or not 1 <= number < 2**32:
         return f"`times` is a whole number of effects, and this is {said(at.value)}", "write a number from 1 to 4294967295, without quotes; without the key there is no limit"
-    return "`times` limits what a rule grants, and this rule doesn't grant", 'remove `times`, or let the rule answer `"grant"`'
+    return "`times` limits grants, and this rule doesn't grant", 'remove `times`, or let the rule answer `"grant"`'
 
 
 BAD_VALUES = {

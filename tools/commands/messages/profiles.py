@@ -132,7 +132,7 @@ class Checker:
         if not self.is_of("string", value, "the action", f"the actions are {listed(USUAL_ACTIONS)}"):
             return
         if value.plain == TRAP:
-            self.tell(value, f"{TRAP} sends SIGSYS, which a script's filter can't do", "write `SCMP_ACT_ERRNO` or `SCMP_ACT_KILL_PROCESS`, to see what the rest of the profile does")
+            self.tell(value, f"{TRAP} sends SIGSYS, which a script's filter can't do", "write `SCMP_ACT_ERRNO` or `SCMP_ACT_KILL_PROCESS`, to see the effect of the rest")
         elif value.plain not in ACTIONS:
             self.tell(value, f"there is no action {value.plain}", advice(meant(value.plain, ACTIONS), f"the actions are {listed(USUAL_ACTIONS)}"))
         elif number is not None and value.plain in WITH_NUMBER:

@@ -17,7 +17,7 @@ MOST_WORKER, MOST_OF_A_RUN = 15, 16
 # beginnings of files that aren't the text of one report
 OTHERS = (
     ("container ", "this is the output of `pod`", "give the report of one container, which follows its line `container N`, with that container's policy and script"),
-    ("explored ", "this is the output of `explore`, and no report", "play one of its schedules, and check what that prints"),
+    ("explored ", "this is the output of `explore`, and no report", "play one of its schedules, and check its report"),
     ("{", "this looks like JSON", "give the text that the command prints without `json`"),
     ("yes ", "this is the output of `audit-check`", "give the report that it has checked"),
     ("trail ", "this is the output of `audit-check`", "give the report that it has checked"),

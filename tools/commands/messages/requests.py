@@ -81,7 +81,7 @@ OTHER_WORDS = {
     **{call: f"act {call}" for call in ACTS},
 }
 A_REQUEST = f"after the worker's number comes a count of steps, or the worker's request: {listed([*OF_WORKERS, 'act'], 'or')}"
-A_KIND = "the lines of one number are either counts, as `w 0 9`, which are steps of this project's own worker, or requests of another broker's, as `w 0 recv`: give one of the two workers another number"
+A_KIND = "the lines of one worker are counts of a built-in one's steps, as `w 0 9`, or requests of another broker's, as `w 0 recv`: give one of the two another number"
 # a line of a session as the clients write it, and one of a journal
 OF_SESSION, OF_JOURNAL = re.compile(r"[<>]"), re.compile(r"\d+ ([tw])(\d[\d.]*) ")
 
@@ -143,8 +143,8 @@ def mixed(line: Any, others: Any) -> Any:
     if above is None:
         return None
     if is_request(line):
-        return f"line {above.number} counts steps of worker {number}, and this line says what it asks for", A_KIND
-    return f"line {above.number} says what worker {number} asks for, and this line counts steps of it", A_KIND
+        return f"line {above.number} counts steps of worker {number}, and this line is its request", A_KIND
+    return f"line {above.number} is a request of worker {number}, and this line counts its steps", A_KIND
 
 
 def hex_out_of_range(token: Token, operand: Operand) -> Tuple[str, str]:

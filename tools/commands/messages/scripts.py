@@ -94,7 +94,7 @@ def of_session(asked: Asked) -> Optional[Tuple[str, str]]:
         return f"`{text}` is a request of `step`, and no step", f"leave the line out: {requests.OF_SESSIONS[text]}"
     event = requests.OF_JOURNAL.match(whole)
     if event:
-        right = f"write `t {event[2]}`" if event[1] == "t" else f"write `w {event[2]}` and what the worker asked for, as `w {event[2]} recv`"
+        right = f"write `t {event[2]}`" if event[1] == "t" else f"write `w {event[2]}` and the worker's request, as `w {event[2]} recv`"
         return "this is a line of a journal", f"{right}; `script` of `step` prints a session as a script"
     return None
 
@@ -341,7 +341,7 @@ def finding_of(data: bytes, number: int, reason: str) -> Any:
     """What the program's refusal of a script means, by the line and the reason that it named."""
     text, name = Text(data), reason.replace(" ", "-")
     if reason == "no program":
-        return whole_file(name, "the script has no program", "add what task 0 does: `prog main`, its instructions, and `end`")
+        return whole_file(name, "the script has no program", "add the program of task 0: `prog main`, its instructions, and `end`")
     line = text.line(number)
     first = len(text.whole) - len(text.whole.lstrip())
     if text.whole.startswith("{", first) and number == text.line_of(first):

@@ -185,7 +185,7 @@ def add_rule(made, action, name, each):
     except RuntimeError as fault:
         number = ERROR.search(str(fault))
         if number and int(number[1]) == TAKEN:
-            raise Refused(f"an entry above has another action for {name} where the same holds of its arguments", "a call has one action for the same arguments: leave it out of one of the two") from fault
+            raise Refused(f"an entry above has another action for {name} if the same holds of its arguments", "a call has one action for the same arguments: leave it out of one of the two") from fault
         raise Refused(f"libseccomp refuses the rule for {name}: {fault}") from fault
 
 

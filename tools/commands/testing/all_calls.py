@@ -123,7 +123,7 @@ class Reader:
         """The word for the verdict, and the answer that the claim names."""
         said = []
         while True:
-            word = self.take("what is decided of the calls")
+            word = self.take("the decision of the calls")
             is_last = word.text.endswith(":") and not word.is_quoted
             said.append(Word(word.text[:-1], word.line, word.start, word.end - 1, word.is_quoted) if is_last else word)
             if is_last:
@@ -132,7 +132,7 @@ class Reader:
         if not colon.text:
             said.pop()
         if not said:
-            raise Word("", colon.line, colon.start, colon.end + 1).fault("what is decided of the calls is missing", f"as in `{EXAMPLE}`")
+            raise Word("", colon.line, colon.start, colon.end + 1).fault("the decision of the calls is missing", f"as in `{EXAMPLE}`")
         first, rest = said[0], said[1:]
         if first.text not in VERDICTS or first.is_quoted:
             other = words.OTHER_EXPECTED.get(first.text.lower())

@@ -244,5 +244,5 @@ def call_of(line: Line, given: Tuple[Word, ...], text: str) -> Call:
     stored = arguments_of(name, Reader(line, name, given[1:]).read())
     rest = sum(len(it.content) for it in stored if isinstance(it, Stored) and not it.is_path)
     if rest > PAGE:
-        raise given[0].fault(f"the texts of the call have {rest} bytes", f"beside its path they have at most {PAGE}")
+        raise given[0].fault(f"the texts of the call have {rest} bytes", f"besides its path they have at most {PAGE}")
     return Call(name, stored, text)

@@ -107,7 +107,7 @@ class Reader:
 
     def alternative(self):
         if self.next is None or self.is_next(OR):
-            raise self.missing("what is expected", EXAMPLE)
+            raise self.missing("the expected result", EXAMPLE)
         word = self.take()
         if is_result(word):
             return Alternative(result=word.text)

@@ -254,7 +254,7 @@ class Reader:
         if not container.tasks:
             raise container.line.first.fault("the container has no task", "add `task main`, and its calls below it")
         if not any(step.expected for task in container.tasks for step in task.steps) and not any(it.claims for it in container.explorings):
-            raise container.line.first.fault("nothing is expected of the container", f"add `{ARROW}` and what is expected to a call of a task, or `explore` and a claim")
+            raise container.line.first.fault("nothing is expected of the container", f"add `{ARROW}` and the expected result to a call of a task, or `explore` and a claim")
         Instances(container)
 
     def file_of(self, line, known=None):
@@ -298,7 +298,7 @@ class Reader:
         made, behind = split_at_arrow(line.rest)
         call = call_of(line, made, text_between(line, made))
         if behind is None:
-            raise missing(line, "what is expected", f"{line.text} {ARROW} granted")
+            raise missing(line, "the expected result", f"{line.text} {ARROW} granted")
         expected = expected_of(line, behind, text_between(line, behind))
         self.current(line).singles.append(Single(line, call, expected))
 
@@ -347,7 +347,7 @@ class Reader:
         named, behind = split_at_arrow(line.words)
         selection = selection_of(line, named)
         if behind is None:
-            raise missing(line, "what is expected", f"{line.text} {ARROW} granted")
+            raise missing(line, "the expected result", f"{line.text} {ARROW} granted")
         self.traced.expectations.append(OfTrace(line, text_between(line, named), selection, expected_of(line, behind, text_between(line, behind), of_trace=True)))
 
     def task_line(self, line):
