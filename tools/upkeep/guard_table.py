@@ -15,7 +15,7 @@ from tools.commands.command_line.top import TOP
 
 PAGE, LIST = TOP / "docs/reference/AGENTS.md", TOP / "lib/shim/call_list.h"
 BEGIN, END = "<!-- from lib/shim/call_list.h, by tools/upkeep/guard-table -->\n", "<!-- end of the table -->\n"
-HEAD = "| of | answered | passed | told | calls |\n|---|---|---|---|---|\n"
+HEAD = "| of | answered | passed | refused | calls |\n|---|---|---|---|---|\n"
 GROUP = re.compile(r'^GROUP\("(.*?)", "(.*?)", "(.*?)", "(.*?)"\)$', re.M)
 CALL = re.compile(r"\bCALL\((\w+), (\w+), ")
 # which of the calls a row names, by their classes: of the machine's all are told
