@@ -1,4 +1,4 @@
-"""Writes the parts of documents that are made of tables: commands, calls, the parts of a rule, the lines of a script, refusals, clauses, and differences from traces and from Linux.
+"""Writes the parts of documents that are made of tables: commands, calls, the parts of a rule, the lines of a script, refusals, clauses, functions of the C library, and differences from traces and from Linux.
 
     tools/upkeep/write-tables           writes them, each between its two marks
     tools/upkeep/write-tables --check   says which pages have others
@@ -12,7 +12,7 @@ from typing import Iterator
 
 from tools.commands.command_line.arguments import ToolParser
 from tools.commands.command_line.top import TOP
-from tools.upkeep.tables import calls, clauses, commands, linux, page, policies, refusals, scripts, traces
+from tools.upkeep.tables import calls, clauses, commands, library, linux, page, policies, refusals, scripts, traces
 from tools.upkeep.tables.page import Table
 
 REFERENCE, WORDS, DIFFERENCES = "docs/reference", "tools/commands/messages/policy_words.py", "tools/commands/linux_stage/differences.json"
@@ -25,10 +25,12 @@ TABLES = (
     Table(f"{REFERENCE}/SCRIPT.md", "the settings", "tools/commands/messages/script_words.py", scripts.settings),
     Table(f"{REFERENCE}/SCRIPT.md", "the instructions", "tools/commands/messages/script_words.py", scripts.programs),
     Table(f"{REFERENCE}/SCRIPT.md", "the calls", calls.SOURCE, calls.table),
+    Table(f"{REFERENCE}/STATUSES.md", "the usage line", refusals.LINES, refusals.usage),
     Table(f"{REFERENCE}/STATUSES.md", "the refusals of a script", "tools/commands/messages/scripts.py", refusals.of_scripts),
     Table(f"{REFERENCE}/STATUSES.md", "the refusals of a file of calls", "tools/commands/messages/calls.py", refusals.of_calls),
     Table(f"{REFERENCE}/OUTPUTS.md", "the lines of calls", "tools/commands/messages/calls.py", calls.lines),
     Table(f"{REFERENCE}/OUTPUTS.md", "the differences from a trace", "tools/commands/real_workloads/difference_texts.py", traces.differences),
+    Table(f"{REFERENCE}/C_LIBRARY.md", "the functions", library.HEADER, library.functions),
     Table(f"{REFERENCE}/CLAUSES.md", "the clauses", clauses.SOURCE, clauses.table),
     Table(f"{REFERENCE}/CLAUSES.md", "the mistakes", clauses.SOURCE, clauses.sections),
     Table("docs/LINUX.md", "the differences", DIFFERENCES, linux.short_tables),
