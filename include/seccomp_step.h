@@ -1,13 +1,13 @@
 /*
  * seccomp_step.h - your own broker on the simulated kernel
  *
- * A broker that serves seccomp user notifications makes a few calls of the kernel: it receives, asks whether an id is still valid,
+ * A broker that serves seccomp user notifications makes a few calls of the kernel: it receives, asks if an id is still valid,
  * reads the caller's memory, acts, and answers (seccomp_unotify(2)). With this library it makes them of the simulated kernel, which the
  * program `seccomp-broker step POLICY SCRIPT` runs. A test steps the container's tasks itself, so each race comes when the test wants it.
- * docs/YOUR_BROKER.md is the guide. lib/seccomp_step.c is all of the library, and needs a C library and <linux/seccomp.h> alone.
+ * docs/YOUR_BROKER.md is the guide. lib/seccomp_step.c is all of the library, and needs only a C library and <linux/seccomp.h>.
  *
- * Results. Each call that returns an int or a ssize_t returns 0 or a number where it went well, and else a negated error number, as
- * its manual page names it. No call sets errno. These errors come of every call:
+ * Results. Each call that returns an int or a ssize_t returns 0 or a number if it succeeds, and else a negated error number of
+ * its manual page. No call sets errno. Every call may return these errors:
  *
  *   -EAGAIN     the real call would wait here: nothing has happened, and the caller steps tasks and asks again
  *   -ECHRNG     the worker's number is above SB_MOST_WORKERS - 1
@@ -23,12 +23,12 @@
  *
  * Threads. A `struct sb_kernel` is used by one thread at a time: the library takes no lock. Two kernels share nothing.
  *
- * Processes. sb_open starts a child process, and sb_close waits for it. The library changes no signal's disposition, and no SIGPIPE comes
- * of it. A program that waits for any child (waitpid(-1, ..)) takes the status away from sb_close, which then returns -ECHILD.
+ * Processes. sb_open starts a child process, and sb_close waits for it. The library changes no signal's disposition, and raises no
+ * SIGPIPE. A program that waits for any child (waitpid(-1, ..)) takes the status away from sb_close, which then returns -ECHILD.
  *
- * Variables. Where SECCOMP_BROKER_KERNEL names a Unix socket, sb_open connects there, and starts no program: another one holds the kernel and
+ * Variables. If SECCOMP_BROKER_KERNEL names a Unix socket, sb_open connects there, and starts no program: another one holds the kernel and
  * steps the tasks, as explore-broker does. Then a call that would wait waits, and sb_step and sb_close_listener aren't for the broker.
- * Where SECCOMP_BROKER_SESSION names a file, requests and answers are written there, for reference-judge; each sb_open writes it anew.
+ * If SECCOMP_BROKER_SESSION names a file, requests and answers are written there, for reference-judge; each sb_open writes it again.
  *
  * A whole session, which makes the device that a container asks for (examples/c/step_broker.c has a real one):
  *
@@ -73,8 +73,8 @@ struct sb_kernel;
 /* ---- the kernel */
 
 /* Starts the program on a policy and a script, and waits until the container has started: its first task is there and hasn't stepped.
- * `program` is a path, or a name that is looked for on the PATH. Where it is NULL, the variable SECCOMP_BROKER of the environment says it,
- * and where that isn't set it is `seccomp-broker`. Where 0 is returned, *kernel has to be given to sb_close; else it is NULL. With SECCOMP_BROKER_KERNEL
+ * `program` is a path, or a name on the PATH. If it is NULL, the variable SECCOMP_BROKER of the environment names it,
+ * by default `seccomp-broker`. If 0 is returned, give *kernel to sb_close; else it is NULL. With SECCOMP_BROKER_KERNEL
  * all three may be NULL.
  *
  *   -ENOENT, -EACCES, ..  the program can't be started (execve(2)), the socket can't be connected to (connect(2)), or a file can't be written
@@ -84,43 +84,43 @@ struct sb_kernel;
 int sb_open(struct sb_kernel **kernel, const char *program, const char *policy, const char *script);
 
 /* Closes the program's input, which closes the listener, and waits for the program. Frees the kernel in any case. NULL is 0.
- * Returns the program's exit status, 0 where all went well, or 128 and the number of the signal that ended it.
+ * Returns the program's exit status, 0 if all went well, or 128 and the number of the signal that ended it.
  *
  *   assert(sb_close(kernel) == 0); */
 int sb_close(struct sb_kernel *kernel);
 
-/* The program's answer to the newest request, without its newline: the journal's line of the event (docs/reference/REPORT.md), `skip` where there
- * was none, or why it was refused. It holds until the next call. Never NULL.
+/* The program's answer to the newest request, without its newline: the journal's line of the event (docs/reference/REPORT.md), `skip` if there
+ * was none, or the reason of a refusal. It holds until the next call. Never NULL.
  *
  *   puts(sb_answer(kernel));                             7 w0 send 1 0 ok */
 const char *sb_answer(const struct sb_kernel *kernel);
 
-/* The report so far, as `seccomp-broker play` prints it, as a text with a zero byte after it, which the caller frees. *length, where
- * `length` isn't NULL, is the number of its bytes. Where an error is returned *report is NULL.
+/* The report so far, as `seccomp-broker play` prints it, as a text with a zero byte after it, which the caller frees. *length, if
+ * `length` isn't NULL, is the number of its bytes. If an error is returned, *report is NULL.
  *
  *   if (sb_report(kernel, &report, NULL) == 0) { fputs(report, stdout); free(report); } */
 int sb_report(struct sb_kernel *kernel, char **report, size_t *length);
 
 /* The script of what has happened so far, given as sb_report gives the report: the lines of the script before its schedule, and a schedule with each
- * step of a task and each call of the broker that was an event. `seccomp-broker play` plays it, and prints the report that sb_report gives behind
- * sb_close_listener. The script's own bytes are as they stand in its file; in a comment there may be a zero byte, so take the length.
+ * step of a task and each call of the broker that was an event. `seccomp-broker play` plays it, and prints the report that sb_report gives after
+ * sb_close_listener. The script's own bytes are as in its file; in a comment there may be a zero byte, so take the length.
  *
  *   -EFBIG  it would have more steps (200,000) or bytes (8,388,608) than a script may have
  *
  *   if (sb_script(kernel, &script, &length) == 0) { fwrite(script, 1, length, file); free(script); } */
 int sb_script(struct sb_kernel *kernel, char **script, size_t *length);
 
-/* What a judge finds of the broker, by what has happened so far: the first line of what `reference-judge` prints of it, with its newline, given as sb_report gives the report.
- * It is `mediated events=N calls=N effects=N answers=N`, or of the first event that breaks a clause `broken PLACE CLASS CLAUSE` (docs/reference/OUTPUTS.md). Where `is_idle`, the
- * broker does nothing more by itself: then a call that it has received and that waits isn't answered, which is found at the newest event while the listener is open.
+/* The judgement of the broker so far: the first line of the output of `reference-judge`, with its newline, given as sb_report gives the report.
+ * It is `mediated events=N calls=N effects=N answers=N`, or of the first event that breaks a clause `broken PLACE CLASS CLAUSE` (docs/reference/OUTPUTS.md). With `is_idle` the
+ * broker does nothing more by itself: then a received call that waits is unanswered, at the newest event, while the listener is open.
  *
  *   if (sb_judge(kernel, true, &found, NULL) == 0) { fputs(found, stdout); free(found); } */
 int sb_judge(struct sb_kernel *kernel, bool is_idle, char **found, size_t *length);
 
 /* ---- the container's tasks */
 
-/* Writes the names of the tasks that can step, with a blank between two, and returns 1 where sb_recv wouldn't wait, else 0: a notification is
- * there, or the call that there was is gone. With a `size` of 0 nothing is written, and `tasks` may be NULL.
+/* Writes the names of the tasks that can step, with a blank between two, and returns 1 if sb_recv wouldn't wait, else 0: a notification is
+ * there, or its call has gone. With a `size` of 0 nothing is written, and `tasks` may be NULL.
  *
  *   -ERANGE  the names and a zero byte don't fit
  *
@@ -136,17 +136,17 @@ int sb_able(struct sb_kernel *kernel, char *tasks, size_t size);
  *   while (sb_step(kernel, "0") == 0) ; */
 int sb_step(struct sb_kernel *kernel, const char *task);
 
-/* ---- how something stands. A look is no event: nothing happens by it, no report tells it, and no judge hears it. */
+/* ---- looks. A look is no event: it changes nothing, no report has it, and no judge gets it. */
 
 /* How many bytes a task's name and a link's target have at most, with the zero byte. */
 #define SB_MOST_NAME 456
 #define SB_MOST_TARGET 4096
 
-/* How a task is, by the letter of /proc/PID/stat: it is able to step; it waits, for the broker or for a child; it waits, and only a fatal signal
+/* A task's state, by the letter of /proc/PID/stat: it can step; it waits, for the broker or for a child; it waits, and only a fatal signal
  * ends that, since its call was received and the listener is killable; or it has ended and wasn't waited for. */
 enum sb_task_state { SB_RUNNING = 'R', SB_SLEEPING = 'S', SB_DISK_SLEEP = 'D', SB_ZOMBIE = 'Z' };
 
-/* A task: its name, the PID of its parent while that lives, else 0, and how it is. Each task is a thread group of its own. */
+/* A task: its name, the PID of its parent while that lives, else 0, and its state. Each task is a thread group of its own. */
 struct sb_task {
   char name[SB_MOST_NAME];
   uint32_t ppid;
@@ -180,13 +180,13 @@ struct sb_descriptor {
  *   bool waits = sb_look_pid(kernel, notif.pid, &task) == 0 && task.state != SB_RUNNING; */
 int sb_look_pid(struct sb_kernel *kernel, uint32_t pid, struct sb_task *task);
 
-/* What a descriptor of the task that holds a PID leads to: SB_NOTHING where it isn't open, where nobody holds the PID, and where the task has ended.
+/* What a descriptor of the task that holds a PID leads to: SB_NOTHING if it isn't open, nobody holds the PID, or the task has ended.
  *
  *   struct sb_descriptor leads;
  *   int error = sb_look_fd(kernel, notif.pid, 3, &leads); */
 int sb_look_fd(struct sb_kernel *kernel, uint32_t pid, uint32_t number, struct sb_descriptor *leads);
 
-/* Where a path leads that the task which holds a PID would walk from a descriptor, or from its working directory (AT_FDCWD). Where `follows` isn't set,
+/* The node of a path that the holder of a PID would walk from a descriptor, or from its working directory (AT_FDCWD). If `follows` isn't set,
  * a link at the end is itself the node. Each path goes over the container's tree, and ends at its root.
  *
  *   -ESRCH  nobody holds the PID, or the task has ended
@@ -197,30 +197,30 @@ int sb_look_fd(struct sb_kernel *kernel, uint32_t pid, uint32_t number, struct s
  *   int error = sb_look_path(kernel, notif.pid, AT_FDCWD, "/dev/null", true, &node); */
 int sb_look_path(struct sb_kernel *kernel, uint32_t pid, int dirfd, const char *path, bool follows, struct sb_node *node);
 
-/* poll(2) of the listener: POLLIN where a call waits to be received, POLLOUT where one was received and waits for its answer.
+/* poll(2) of the listener: POLLIN if a call waits to be received, POLLOUT if one was received and waits for its answer.
  *
  *   bool is_there = (sb_look_listener(kernel) & POLLIN) != 0; */
 int sb_look_listener(struct sb_kernel *kernel);
 
 /* ---- its end */
 
-/* Closes the listener, as the end of the broker does. After it only sb_answer, sb_report, sb_script, sb_judge and sb_close do something. */
+/* Closes the listener, as the broker's end does. After it only sb_answer, sb_report, sb_script, sb_judge and sb_close work. */
 int sb_close_listener(struct sb_kernel *kernel);
 
 /* ---- the listener: ioctl(2) with the requests of seccomp_unotify(2) */
 
-/* SECCOMP_IOCTL_NOTIF_RECV: the oldest notification that wasn't received. *notif has to be filled with zeros, as the kernel wants it. Where the
- * seat has a notification already, that one is let go of, but the memory and the directory that were opened for it stay open.
+/* SECCOMP_IOCTL_NOTIF_RECV: the oldest notification that wasn't received. *notif has to be filled with zeros, as for the kernel. If the
+ * seat has a notification already, that one is released, but the memory and the directory that were opened for it stay open.
  *
  *   -EINVAL  *notif isn't filled with zeros
- *   -ENOENT  the call that there was has gone: its task was interrupted or has ended
+ *   -ENOENT  the call has gone: its task was interrupted or has ended
  *   -EAGAIN  no call is waiting: the real one would block
  *
  *   struct seccomp_notif notif = {0};
  *   int error = sb_recv(kernel, 0, &notif); */
 int sb_recv(struct sb_kernel *kernel, unsigned worker, struct seccomp_notif *notif);
 
-/* SECCOMP_IOCTL_NOTIF_ID_VALID: whether the call still waits for an answer. A broker asks it after it has opened the caller's memory, and
+/* SECCOMP_IOCTL_NOTIF_ID_VALID: if the call still waits for an answer. A broker asks it after it has opened the caller's memory, and
  * again after it has read all that it needs.
  *
  *   -ENOENT  it doesn't: what was opened by the caller's PID may be another task's
@@ -238,8 +238,8 @@ int sb_id_valid(struct sb_kernel *kernel, unsigned worker, uint64_t id);
  *   int error = sb_send(kernel, 0, &answer); */
 int sb_send(struct sb_kernel *kernel, unsigned worker, const struct seccomp_notif_resp *answer);
 
-/* SECCOMP_IOCTL_NOTIF_ADDFD, its first half: asks for a descriptor to be put into the caller. The script's lines `broker N` say which numbers
- * `srcfd` may have. The real call waits until the caller has installed it; here a step of the caller does that, and sb_addfd_result tells.
+/* SECCOMP_IOCTL_NOTIF_ADDFD, its first half: asks for a descriptor to be put into the caller. The script's lines `broker N` have the numbers
+ * of `srcfd`. The real call waits until the caller has installed it; here a step of the caller does that, and sb_addfd_result tells.
  *
  *   -EINVAL       an unknown flag, or a number without SECCOMP_ADDFD_FLAG_SETFD
  *   -EBADF        `srcfd` isn't open in the broker
@@ -263,13 +263,13 @@ int sb_addfd(struct sb_kernel *kernel, unsigned worker, const struct seccomp_not
  *   int number = sb_addfd_result(kernel, 0); */
 int sb_addfd_result(struct sb_kernel *kernel, unsigned worker);
 
-/* Lets go of the seat's notification, and closes what was opened for it. An answer has to be sent before. */
+/* Releases the seat's notification, and closes all that was opened for it. Send an answer before. */
 int sb_let_go(struct sb_kernel *kernel, unsigned worker);
 
 /* ---- the caller's memory (proc(5)) */
 
-/* open(2) of /proc/PID/mem: the memory of whichever task has this PID by now. It stays open, whatever becomes of the task. A second one takes its
- * place, and closes it.
+/* open(2) of /proc/PID/mem: the memory of whichever task has this PID by now. It stays open, even if the task ends. A second one
+ * replaces and closes it.
  *
  *   -ESRCH  nobody has the PID, or the task has ended (Linux: ENOENT)
  *
@@ -284,7 +284,7 @@ int sb_open_mem(struct sb_kernel *kernel, unsigned worker, uint32_t pid);
  *   ssize_t count = sb_pread(kernel, 0, path, sizeof path, notif.data.args[0]); */
 ssize_t sb_pread(struct sb_kernel *kernel, unsigned worker, void *buffer, size_t count, uint64_t address);
 
-/* pwrite(2) of what sysinfo(2) gives, into the memory that is open: all of it or nothing.
+/* pwrite(2) of sysinfo(2)'s result, into the memory that is open: all of it or nothing.
  *
  *   -EFAULT  not all of the place is mapped
  *   -EBADF   no memory is open
@@ -293,7 +293,7 @@ ssize_t sb_pread(struct sb_kernel *kernel, unsigned worker, void *buffer, size_t
  *   int error = sb_write_sysinfo(kernel, 0, notif.data.args[0], &info); */
 int sb_write_sysinfo(struct sb_kernel *kernel, unsigned worker, uint64_t address, const struct sysinfo *info);
 
-/* ---- what the broker does with its rights, in the container's tree. Relative paths go from the directory of sb_open_dir, and without one
+/* ---- effects with the broker's rights, in the container's tree. Relative paths go from the directory of sb_open_dir, and without one
  * they answer EBADF; absolute ones go from the container's root. */
 
 /* open(2) of /proc/PID/cwd (`dirfd` is AT_FDCWD) or /proc/PID/fd/DIRFD, as the directory of relative paths. A second one replaces it.
@@ -310,7 +310,7 @@ int sb_open_dir(struct sb_kernel *kernel, unsigned worker, uint32_t pid, int dir
  *   int error = sb_mknodat(kernel, 0, AT_FDCWD, "/dev/null", S_IFCHR | 0666, makedev(1, 3)); */
 int sb_mknodat(struct sb_kernel *kernel, unsigned worker, int dirfd, const char *path, mode_t mode, uint64_t device);
 
-/* How a mount is made that a plain mount(2) doesn't say: by which program (LXD's mount.fuse), and with shifted ids. */
+/* Options of a mount that mount(2) doesn't have: the program that makes it (LXD's mount.fuse), and shifted ids. */
 struct sb_mount_options {
   const char *via;
   bool shift;
