@@ -94,7 +94,7 @@ def failed(number, answer):
 
 
 def result_of(answer):
-    """The last word of an event's line. Raises OSError where that is an error."""
+    """The last word of an event's line. Raises OSError if that is an error."""
     word = answer.rpartition(" ")[2]
     if error_of(word):
         raise failed(error_of(word), answer)
@@ -117,7 +117,7 @@ class ProgramChannel:
 
 
 class SocketChannel:
-    """A socket behind which another program holds the kernel."""
+    """A socket to another program, which holds the kernel."""
 
     def __init__(self, path):
         with socket.socket(socket.AF_UNIX) as connected:
@@ -142,8 +142,8 @@ class Kernel:
     """A simulated kernel with a container, and the way to it."""
 
     def __init__(self, policy=None, script=None, program=None, channel=None):
-        """Starts the program: by default what SECCOMP_BROKER names, or else `seccomp-broker`. Raises OSError with EINVAL where the program
-        refuses the policy or the script; it says why on standard error. Neither is needed where SECCOMP_BROKER_KERNEL names a socket."""
+        """Starts the program: by default what SECCOMP_BROKER names, or else `seccomp-broker`. Raises OSError with EINVAL if the program
+        refuses the policy or the script; it says why on standard error. Neither is needed if SECCOMP_BROKER_KERNEL names a socket."""
         self.channel = channel or channel_to(policy, script, program)
         session = os.environ.get("SECCOMP_BROKER_SESSION")
         self.session = open(session, "wb") if session else None
@@ -200,8 +200,8 @@ class Kernel:
         return self.ask("able").endswith(" recv")
 
     def step(self, task):
-        """Lets a task make its next step, and gives the journal's line of it. Raises BlockingIOError where it has none to make, and
-        ProcessLookupError where no such task was made."""
+        """Lets a task make its next step, and gives the journal's line of it. Raises BlockingIOError if it has none to make, and
+        ProcessLookupError if no such task was made."""
         try:
             return self.ask(f"t {task}")
         except OSError as error:
@@ -218,7 +218,7 @@ class Kernel:
             return
 
     def text(self, request):
-        """The bytes of a text whose length stands behind its word."""
+        """The bytes of a text whose length follows its word."""
         count = int(self.ask(request).split(" ")[1])
         return self.channel.answers.read(count)
 
@@ -233,7 +233,7 @@ class Kernel:
         return self.text("script")
 
     def judge(self, is_idle=False):
-        """What a judge finds of the broker, by what has happened so far: `mediated events=N calls=N effects=N answers=N`, or of the first event that breaks a
+        """The judgement of the broker so far: `mediated events=N calls=N effects=N answers=N`, or of the first event that breaks a
         clause `broken PLACE CLASS CLAUSE`. Where is_idle, the broker does nothing more by itself: then a call that it has received and that waits isn't
         answered, which is found at the newest event while the listener is open."""
         return self.text("judge idle" if is_idle else "judge").decode("latin-1").rstrip("\n")
@@ -241,7 +241,7 @@ class Kernel:
     # ---- looks. They are no events: no report tells them, and no judge hears them
 
     def look_pid(self, pid):
-        """The task that holds a PID. Raises ProcessLookupError where nobody does."""
+        """The task that holds a PID. Raises ProcessLookupError if nobody does."""
         told = self.ask(f"look pid {pid}")
         if told == "look none":
             raise failed(errno.ESRCH, told)
@@ -249,8 +249,8 @@ class Kernel:
         return Task(name, int(ppid), state)
 
     def look_fd(self, pid, number):
-        """What a descriptor of the task that holds a PID leads to: a Node, the number of a file of the broker's, or `console`. None where it isn't open, where nobody
-        holds the PID, and where the task has ended."""
+        """The object of a descriptor of the task that holds a PID: a Node, the number of a file of the broker's, or `console`. None if it isn't open, nobody
+        holds the PID, or the task has ended."""
         _, kind, *rest = self.ask(f"look fd {pid} {number}").split(" ", 2)
         return {"none": lambda: None, "console": lambda: kind, "file": lambda: int(rest[0]), "node": lambda: node_of(rest[0])}[kind]()
 
@@ -264,7 +264,7 @@ class Kernel:
         return node_of(rest)
 
     def look_listener(self):
-        """What poll(2) of the listener gives: select.POLLIN where a call waits to be received, select.POLLOUT where one was received and waits for its answer."""
+        """The result of poll(2) of the listener: select.POLLIN if a call waits to be received, select.POLLOUT if one was received and waits for its answer."""
         _, receives, sends = self.ask("look listener").split(" ")
         return (select.POLLIN if receives == "in=1" else 0) | (select.POLLOUT if sends == "out=1" else 0)
 
@@ -289,7 +289,7 @@ class Seat:
     # ---- the listener (seccomp_unotify(2))
 
     def recv(self):
-        """Receives the oldest notification. Raises BlockingIOError where none is there, and FileNotFoundError where its call has gone."""
+        """Receives the oldest notification. Raises BlockingIOError if none is there, and FileNotFoundError if its call has gone."""
         answer = self.ask("recv")
         event, _, fields = answer.partition(" flags=")
         if not fields:
@@ -325,34 +325,34 @@ class Seat:
 
     def addfd(self, identifier, srcfd, flags=ADDFD_SEND, newfd=0, newfd_flags=0):
         """Asks for a descriptor to be put into the caller, which a step of the caller does. Raises OSError: EBADF, ENOENT, EINPROGRESS,
-        EBUSY, EINVAL, or EALREADY where the last result wasn't taken."""
+        EBUSY, EINVAL, or EALREADY if the last result wasn't taken."""
         result_of(self.ask("addfd-raw", ADDFD.pack(identifier, flags, srcfd, newfd, newfd_flags).hex()))
 
     def addfd_result(self):
-        """The number that it got. Raises BlockingIOError where it isn't installed yet, or OSError: EBADF, EMFILE, ENOENT, ENOMSG."""
+        """The number that it got. Raises BlockingIOError if it isn't installed yet, or OSError: EBADF, EMFILE, ENOENT, ENOMSG."""
         return int(result_of(self.ask("addfd-result")))
 
     def let_go(self):
-        """Lets go of the notification, and closes what was opened for it."""
+        """Releases the notification, and closes all that was opened for it."""
         self.ask("let-go")
 
     # ---- the caller's memory (proc(5))
 
     def open_mem(self, pid):
-        """Opens the memory of whoever has this PID by now, in the place of one that is open. Raises ProcessLookupError."""
+        """Opens the memory of the task that has this PID by now, instead of one that is open. Raises ProcessLookupError."""
         result_of(self.ask("open-mem", pid))
 
     def pread(self, count, address):
-        """At most 4,096 bytes of the memory that is open, and as many as are mapped. Raises OSError with EFAULT where none is."""
+        """At most 4,096 bytes of the memory that is open, and as many as are mapped. Raises OSError with EFAULT if none is."""
         answer = self.ask("read", address, min(count, MOST_READ))
         digits = result_of(answer).partition("bytes=")[2]
         return b"" if digits == "-" else bytes.fromhex(digits)
 
     def write_sysinfo(self, address, info):
-        """Writes the 112 bytes of a struct sysinfo. Raises OSError with EFAULT where not all is mapped."""
+        """Writes the 112 bytes of a struct sysinfo. Raises OSError with EFAULT if not all is mapped."""
         result_of(self.ask("plant", address, bytes(info).hex()))
 
-    # ---- what the broker does with its rights
+    # ---- effects with the broker's rights
 
     def open_dir(self, pid, dirfd=AT_FDCWD):
         """Opens the directory from which relative paths go. Raises ProcessLookupError, or OSError with EBADF."""
@@ -364,7 +364,7 @@ class Seat:
         result_of(self.ask("act", *words, quoted(path), mode, device))
 
     def mount(self, source, target, fstype, flags=0, data="", via=None, shift=False):
-        """mount(2), and by which program and with shifted ids where LXD would do that."""
+        """mount(2), maybe by a program, and with shifted ids, as LXD does it."""
         more = (*(("via", quoted(via)) if via is not None else ()), *(("shift",) if shift else ()))
         result_of(self.ask("act", "mount", quoted(source), quoted(target), quoted(fstype), flags, quoted(data), *more))
 

@@ -77,7 +77,7 @@ type Addfd struct {
 	NewFdFlags uint32
 }
 
-// Mount is what mount(2) takes; and by which program it is made, where Via isn't empty, and whether with shifted ids.
+// Mount has the operands of mount(2), the program that makes it, if Via isn't empty, and if ids are shifted.
 type Mount struct {
 	Source, Target, Type string
 	Flags                uint64
@@ -133,7 +133,7 @@ func errnoNamed(word string) syscall.Errno {
 	return 0
 }
 
-// Kernel is a simulated kernel with a container, and the program that runs it; none where it is behind a socket.
+// Kernel is a simulated kernel with a container, and the program that runs it; none if a socket leads to it.
 type Kernel struct {
 	program *exec.Cmd
 	input   io.WriteCloser
@@ -173,7 +173,7 @@ func OpenProgram(program, policy, script string) (*Kernel, error) {
 	return opened(&Kernel{program: command, input: input, output: bufio.NewReader(output)})
 }
 
-// connect goes to a socket behind which another program holds the kernel.
+// connect opens a socket to another program, which holds the kernel.
 func connect(path string) (*Kernel, error) {
 	connection, err := net.Dial("unix", path)
 	if err != nil {
@@ -317,7 +317,7 @@ func (k *Kernel) Report() (string, error) {
 }
 
 // Script gives the script of what has happened so far: the lines of the script before its schedule, and a schedule with each step of a task and
-// each request of a worker. `seccomp-broker play` plays it, and prints what Report gives behind CloseListener. EFBIG: it would have more steps or
+// each request of a worker. `seccomp-broker play` plays it, and prints the text of Report after CloseListener. EFBIG: it would have more steps or
 // bytes than a script may have.
 func (k *Kernel) Script() (string, error) {
 	return k.text("script", "script")
@@ -337,7 +337,7 @@ func (k *Kernel) JudgeIdle() (string, error) {
 	return strings.TrimSuffix(found, "\n"), err
 }
 
-// text gives a text that a request asks for, whose length stands behind its word.
+// text gives a text that a request asks for, whose length follows its word.
 func (k *Kernel) text(request, word string) (string, error) {
 	answer, err := k.ask(request)
 	if err != nil {
@@ -370,7 +370,7 @@ func (k *Kernel) LookPid(pid uint32) (Task, error) {
 	return task, nil
 }
 
-// LookFd gives what a descriptor of the task that holds a PID leads to. Nothing is there where it isn't open, where nobody holds the PID, and where the task
+// LookFd gives what a descriptor of the task that holds a PID leads to. Nothing is there if it isn't open, nobody holds the PID, or the task
 // has ended.
 func (k *Kernel) LookFd(pid, number uint32) (Object, error) {
 	answer, err := k.ask(fmt.Sprintf("look fd %d %d", pid, number))
@@ -431,7 +431,7 @@ func (k *Kernel) LookListener() (input, output bool, err error) {
 	return in == 1, out == 1, nil
 }
 
-// nodeOf reads the node that stands behind `look node `.
+// nodeOf reads the node that follows `look node `.
 func nodeOf(told, answer string) (Node, error) {
 	words := strings.SplitN(told, " ", 3)
 	node := Node{}
@@ -539,10 +539,10 @@ func (s *Seat) IDValid(id uint64) error { return s.do("check %d", id) }
 func (s *Seat) Send(response Response) error { return s.do("send-raw %s", raw(response)) }
 
 // Addfd asks for a descriptor to be put into the caller (SECCOMP_IOCTL_NOTIF_ADDFD), which a step of the caller does: EINVAL, EBADF, ENOENT,
-// EINPROGRESS, EBUSY, and EALREADY where the last result wasn't taken.
+// EINPROGRESS, EBUSY, and EALREADY if the last result wasn't taken.
 func (s *Seat) Addfd(asked Addfd) error { return s.do("addfd-raw %s", raw(asked)) }
 
-// AddfdResult gives the number that the descriptor got: EAGAIN where it isn't installed yet, EBADF, EMFILE, ENOENT, ENOMSG.
+// AddfdResult gives the number that the descriptor got: EAGAIN if it isn't installed yet, EBADF, EMFILE, ENOENT, ENOMSG.
 func (s *Seat) AddfdResult() (int, error) {
 	word, err := s.kernel.result(s.request("addfd-result"))
 	if err != nil {
@@ -561,7 +561,7 @@ func (s *Seat) LetGo() error {
 	return err
 }
 
-// OpenMem opens the memory of whoever has this PID by now (/proc/PID/mem), in the place of one that is open: ESRCH.
+// OpenMem opens the memory of the task that has this PID by now (/proc/PID/mem), instead of one that is open: ESRCH.
 func (s *Seat) OpenMem(pid uint32) error { return s.do("open-mem %d", pid) }
 
 // Pread reads from the memory that is open, at most MostRead bytes, and as many as are mapped. EFAULT: none is.
@@ -581,7 +581,7 @@ func (s *Seat) Pread(buffer []byte, address uint64) (int, error) {
 	return copy(buffer, content), nil
 }
 
-// WriteSysinfo writes a struct sysinfo: EFAULT where not all of its place is mapped, EBADF where no memory is open.
+// WriteSysinfo writes a struct sysinfo: EFAULT if not all of its place is mapped, EBADF if no memory is open.
 func (s *Seat) WriteSysinfo(address uint64, info *[112]byte) error {
 	return s.do("plant %d %x", address, info[:])
 }

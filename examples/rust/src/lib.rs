@@ -144,7 +144,7 @@ pub struct Addfd {
     pub newfd_flags: u32,
 }
 
-/// What mount(2) takes; and by which program the mount is made, where that isn't empty, and whether with shifted ids.
+/// The operands of mount(2), the program that makes the mount, if that isn't empty, and if ids are shifted.
 #[derive(Clone, Copy, Debug, Default)]
 pub struct Mount<'a> {
     pub source: &'a [u8],
@@ -239,7 +239,7 @@ fn kind_of(word: &str, rest: &str) -> Option<Kind> {
     })
 }
 
-/// The node that stands behind `look node ` in an answer.
+/// The node that follows `look node ` in an answer.
 fn node_of(told: &str) -> Option<Node> {
     let (ordinal, kind) = told.split_once(' ')?;
     let (word, rest) = kind.split_once(' ').unwrap_or((kind, ""));
@@ -315,12 +315,12 @@ fn from_hex(digits: &str) -> Option<Vec<u8>> {
     (0..digits.len() / 2).map(|at| u8::from_str_radix(&digits[2 * at..2 * at + 2], 16).ok()).collect()
 }
 
-/// A variable of the environment, where it is set and isn't empty.
+/// A variable of the environment, if it is set and isn't empty.
 fn variable(name: &str) -> Option<OsString> {
     env::var_os(name).filter(|value| !value.is_empty())
 }
 
-/// A simulated kernel with a container, and the program that runs it; none where it is behind a socket.
+/// A simulated kernel with a container, and the program that runs it; none if a socket leads to it.
 pub struct Kernel {
     program: Option<Child>,
     input: Option<Box<dyn Write>>,
@@ -453,7 +453,7 @@ impl Kernel {
     }
 
     /// The script of what has happened so far, as the bytes of a file: the lines of the script before its schedule, and a schedule with each step of a task and
-    /// each request of a worker. `seccomp-broker play` plays it, and prints what [`Kernel::report`] gives behind [`Kernel::close_listener`]. `EFBIG`: it would
+    /// each request of a worker. `seccomp-broker play` plays it, and prints the text of [`Kernel::report`] after [`Kernel::close_listener`]. `EFBIG`: it would
     /// have more steps or bytes than a script may have.
     pub fn script(&mut self) -> io::Result<Vec<u8>> {
         self.text("script", "script ")
@@ -477,7 +477,7 @@ impl Kernel {
         Ok(line.trim_end().to_owned())
     }
 
-    /// The bytes of a text that a request asks for, whose length stands behind its word and a blank.
+    /// The bytes of a text that a request asks for, whose length follows its word and a blank.
     fn text(&mut self, request: &str, word: &str) -> io::Result<Vec<u8>> {
         let Some(length) = self.ask(request.as_bytes())?.strip_prefix(word).and_then(|count| count.parse().ok()) else {
             return failed(EPROTO);
@@ -501,7 +501,7 @@ impl Kernel {
         self.look(format!("look pid {pid}").as_bytes(), |told| if told == "look none" { Some(None) } else { task_of(told).map(Some) })
     }
 
-    /// What a descriptor of the task that holds a PID leads to: `None` where it isn't open, where nobody holds the PID, and where the task has ended.
+    /// What a descriptor of the task that holds a PID leads to: `None` if it isn't open, nobody holds the PID, or the task has ended.
     pub fn look_fd(&mut self, pid: u32, number: u32) -> io::Result<Option<Object>> {
         self.look(format!("look fd {pid} {number}").as_bytes(), |told| if told == "look none" { Some(None) } else { object_of(told).map(Some) })
     }
@@ -587,14 +587,14 @@ impl Seat<'_> {
     }
 
     /// `SECCOMP_IOCTL_NOTIF_ADDFD`, its first half: a step of the caller installs the descriptor. `EINVAL`, `EBADF`, `ENOENT`, `EINPROGRESS`,
-    /// `EBUSY`, and `EALREADY` where the last result wasn't taken.
+    /// `EBUSY`, and `EALREADY` if the last result wasn't taken.
     pub fn addfd(&mut self, asked: &Addfd) -> io::Result<()> {
         let Addfd { id, flags, srcfd, newfd, newfd_flags } = *asked;
         let fields = [&id.to_le_bytes()[..], &flags.to_le_bytes(), &srcfd.to_le_bytes(), &newfd.to_le_bytes(), &newfd_flags.to_le_bytes()];
         self.act(&[b"addfd-raw", hex(&fields.concat()).as_bytes()])
     }
 
-    /// The number that it got: `EAGAIN` where it isn't installed yet, `EBADF`, `EMFILE`, `ENOENT`, `ENOMSG`.
+    /// The number that it got: `EAGAIN` if it isn't installed yet, `EBADF`, `EMFILE`, `ENOENT`, `ENOMSG`.
     pub fn addfd_result(&mut self) -> io::Result<u32> {
         self.result(&[b"addfd-result"])?.parse().or_else(|_| failed(EPROTO))
     }
@@ -607,7 +607,7 @@ impl Seat<'_> {
 
     // ---- the caller's memory (proc(5))
 
-    /// Opens the memory of whoever has this PID by now, in the place of one that is open: `ESRCH`.
+    /// Opens the memory of the task that has this PID by now, instead of one that is open: `ESRCH`.
     pub fn open_mem(&mut self, pid: u32) -> io::Result<()> {
         self.act(&[b"open-mem", pid.to_string().as_bytes()])
     }
@@ -618,7 +618,7 @@ impl Seat<'_> {
         word.strip_prefix("bytes=").and_then(from_hex).map_or_else(|| failed(EPROTO), Ok)
     }
 
-    /// Writes a `struct sysinfo`: `EFAULT` where not all of its place is mapped, `EBADF` where no memory is open.
+    /// Writes a `struct sysinfo`: `EFAULT` if not all of its place is mapped, `EBADF` if no memory is open.
     pub fn write_sysinfo(&mut self, address: u64, info: &[u8; 112]) -> io::Result<()> {
         self.act(&[b"plant", address.to_string().as_bytes(), hex(info).as_bytes()])
     }
