@@ -11,7 +11,7 @@ WORD = re.compile(r"[A-Za-z_][A-Za-z_0-9-]*")
 SOURCES = [path for folder in ("tools", "bench", "tests", "examples") for path in (TOP / folder).rglob("*") if path.suffix in (".py", ".js", ".html", ".json", ".c", ".txt", "") and path.is_file()]
 # methods that a library calls by their names, and those whose names are made of a word
 CALLED = ("format_help", "send_error", "log_message", "handle_error")
-MADE = ("do_", "by_", "test_", "__")
+MADE = ("do_", "by_", "note_", "test_", "__")
 
 
 def words_of(path: Path) -> Counter:

@@ -130,7 +130,7 @@ def ended_by(filter_bytes: bytes, number: int = 500) -> str:
     return f"signal {-status}" if status < 0 else machine.error_name(status) if status else "0"
 
 
-def only(number: int, *instructions: Tuple[int, ...]) -> bytes:
+def only(number: int, *instructions: Tuple[int, int, int, int]) -> bytes:
     """A filter that asks these of one call, and allows the others."""
     return bpf.to_bytes([(0x20, 0, 0, 0), (0x15, 1, 0, number), TAKE, *instructions])
 

@@ -316,12 +316,12 @@ class WatchedKernel(Kernel):
         self.facts.whom = pid
 
     def note_read(self, actor: str, address: int, length: int, answer: Any) -> None:
-        memory = self.worker(int(actor[1:])).memory
+        memory: Any = self.worker(int(actor[1:])).memory
         self.facts.has_ended = memory is not None and self.has_ended(memory)
         self.facts.is_torn, self.facts.length = self.is_torn(memory, address, length), length
 
     def note_plant(self, actor: str, address: int, content: bytes, answer: Any) -> None:
-        memory = self.worker(int(actor[1:])).memory
+        memory: Any = self.worker(int(actor[1:])).memory
         self.facts.has_ended, self.facts.written = self.has_ended(memory), content
         self.facts.fitting = sum(memory.is_mapped(address + at) for at in range(len(content)))
 
@@ -342,5 +342,6 @@ def steps(policy: bytes, script: bytes) -> List[Step]:
     """The steps of a script that the program plays under a policy."""
     rules, container = policies.read_policy(policy), scripts.read_script(script)
     session = Session(rules, container)
-    session.kernel = WatchedKernel(container)
-    return played(session, rules, container).kernel.found
+    kernel = session.kernel = WatchedKernel(container)
+    played(session, rules, container)
+    return kernel.found

@@ -122,7 +122,11 @@ def documents() -> Dict[str, File]:
     found = {"README.md": read(f"{TOP}/README.md"), **below(files_below("docs"), "docs")}
     found = {name: entry for name, entry in found.items() if not name.startswith("docs/inside/")}
     there, elsewhere = ({*names, *folders_of(names)} for names in (found, shared()))
-    return {name: text(LINK.sub(lambda link, name=name: linked(there, elsewhere, name, link), entry.data.decode())) if name.endswith(".md") else entry for name, entry in found.items()}
+    return {name: text(page_of(there, elsewhere, name, entry.data.decode())) if name.endswith(".md") else entry for name, entry in found.items()}
+
+
+def page_of(there: Set[str], elsewhere: Set[str], name: str, page: str) -> str:
+    return LINK.sub(lambda link: linked(there, elsewhere, name, link), page)
 
 
 def linked(there: Set[str], elsewhere: Set[str], name: str, link: re.Match[str]) -> str:

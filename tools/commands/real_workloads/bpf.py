@@ -2,7 +2,7 @@
 from __future__ import annotations
 
 import struct
-from typing import Any, List, NamedTuple, Optional
+from typing import Any, Iterable, List, NamedTuple, Optional, Tuple
 
 X86_64 = 0xC000003E
 WORDS = {
@@ -34,7 +34,7 @@ def from_bytes(raw: bytes) -> List[Instruction]:
     return [Instruction(*INSTRUCTION.unpack_from(raw, at)) for at in range(0, len(raw), INSTRUCTION.size)]
 
 
-def to_bytes(instructions: List[Instruction]) -> bytes:
+def to_bytes(instructions: Iterable[Tuple[int, int, int, int]]) -> bytes:
     return b"".join(INSTRUCTION.pack(*instruction) for instruction in instructions)
 
 

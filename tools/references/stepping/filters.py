@@ -1,7 +1,7 @@
 """What the filters of a script say of a call (docs/reference/SCRIPT.md, Filters)."""
 from __future__ import annotations
 
-from typing import Any, List, Tuple, Union
+from typing import Any, List, Tuple
 
 from tools.commands.real_workloads.bpf import ALLOW, ERRNO, JUMPS, LOG, NOTIFY, TRACE, TRAP, X86_64, action
 
@@ -60,7 +60,7 @@ def precedence(answer: int) -> int:
     return (action(answer) + (1 << 31)) & WORD
 
 
-def verdict(filters: List[Tuple[Any, ...]], number: int, args: Tuple[int, int, int, int, int, int], instruction_pointer: int = 0) -> Tuple[Union[int, str], ...]:
+def verdict(filters: List[Tuple[Any, ...]], number: int, args: Tuple[int, ...], instruction_pointer: int = 0) -> Tuple[Any, ...]:
     """What the filters say, the oldest first, each with whether it has the listener. A notification has no id here."""
     chosen, listens = ALLOW, False
     data = data_of(number, args, instruction_pointer)

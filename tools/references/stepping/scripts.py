@@ -364,7 +364,7 @@ def lines_of(data: bytes) -> Iterator[Any]:
     return enumerate(lines[:-1] if not lines[-1] else lines, 1)
 
 
-def read_script(data: bytes) -> Optional[Container]:
+def read_script(data: bytes) -> Container:
     """The container that a script describes. Raises Refused."""
     reader = Reader()
     for place, raw in lines_of(data):

@@ -3,7 +3,7 @@ from __future__ import annotations
 
 import re
 
-from tools.upkeep.tables.page import TOP
+from tools.commands.command_line.top import TOP
 
 HEADER = "include/seccomp_broker.h"
 FUNCTION = re.compile(r"^enum broker_status broker_\w+\(.*?\);$", re.M | re.S)

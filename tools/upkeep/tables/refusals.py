@@ -4,8 +4,9 @@ from __future__ import annotations
 import re
 from typing import Dict
 
+from tools.commands.command_line.top import TOP
 from tools.commands.messages import calls, scripts
-from tools.upkeep.tables.page import TOP, rows
+from tools.upkeep.tables.page import rows
 
 LINES = "crates/broker_app/specs/Lines.antt"
 USAGE, TEXT = re.compile(r"^line_of Usage =\n(.*?)\nline_of ", re.M | re.S), re.compile(r'codes "([^"]*)"')
