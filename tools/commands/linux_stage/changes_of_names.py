@@ -27,6 +27,7 @@ def step_of(policy: bytes, script: bytes, event: str) -> Optional[scenes.Step]:
 
 
 def place_of(row: dict) -> Place:
+    """The facts of the play that the row's name needs."""
     return Place(ADDRESS, as_init=True, is_init=row["name"].startswith("init-"), is_orphan=row["name"] == "init-reaps-orphans")
 
 
