@@ -12,6 +12,8 @@ run in one folder; `cd` holds for those that follow. For a page that packages ha
 the package has there. For another page it has links to the repository's files. Commands with a text of NOT_RUN aren't run. No other block of a
 page has a command, but a form may stand there: it has words in capitals, for files and numbers.
 
+YOUR_BROKER, AGENTS and INSTALL need cc, and the first make, too.
+
 Exit status: 0 if each page shows what is so, else 1. The last line is `commands: N passed, N failed`.
 """
 import os
