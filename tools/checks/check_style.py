@@ -1,14 +1,15 @@
 """Checks how documents are written, by docs/inside/STYLE.md and the table of their pages.
 
     tools/checks/check-style                 checks all documents, and the subjects of commits
-    tools/checks/check-style PAGE ..         prints each finding of these pages with its line, or of `help`
+    tools/checks/check-style PAGE ..         prints each finding of these pages with its line; `help` and `messages` are pages, too
     tools/checks/check-style --lower         lowers the figures of the list of exceptions that got better
 
 Of each page it counts: `words`, in hundreds, where they are more than the page's number in tools/checks/style/pages.json by over a tenth; `sentences` and
 cells of more than 25 words; `lines` wider than 100 characters, without tables; `breaks`, sentences that don't begin a line; and `replaced`, words for
 which the guide has others (tools/checks/style/replaced.json). Blocks of code and generated parts don't count. `user pages` and `internals` have the words of
-these pages together, and `help` the sentences and replaced words of the table of commands. tools/checks/style/exceptions.json has the figures that
-pages may still have. They only fall: a figure above its exception fails, and so does one below it, until the list is lowered. A commit that came after this check has a subject of at most 72 characters.
+these pages together, `help` the sentences and replaced words of the table of commands, and `messages` the replaced words of messages in mistakes/ and
+tests/. tools/checks/style/exceptions.json has the figures that pages may still have. They only fall: a figure above its exception fails, and so does one
+below it, until the list is lowered. A commit that came after this check has a subject of at most 72 characters.
 
 Exit status: 0 where all figures are those of the list, else 1. The last line is `style: N passed, N failed`.
 """
@@ -27,8 +28,10 @@ from tools.commands.command_line.top import TOP
 
 TABLES = Path(__file__).resolve().parent / "style"
 MOST_WORDS, WIDTH, SUBJECT, TOGETHER = 25, 100, 72, 30_000
-# what is counted of the texts of help, which are no lines of a page
-HELP, OF_HELP = "help", ("sentences", "replaced")
+# what is counted of the texts of help and of messages, which are no lines of a page; a message may have a long list of names
+HELP, MESSAGES = "help", "messages"
+TEXTS = {HELP: ("sentences", "replaced"), MESSAGES: ("replaced",)}
+SAID, MESSAGE = "---- what is said\n", re.compile(r"^help: (.*(?:\n {6}\S.*)*)|^\S+?:\d+:\d+: (.*)", re.M)
 # pages that are a list of their own kind: each line of the changelog is an item, and the guide shows the words that it replaces
 NOT_CHECKED = {"CHANGELOG.md", "docs/inside/STYLE.md"}
 # pages outside of docs/inside that are for contributors alone
@@ -101,9 +104,18 @@ def texts_of_help(part: Any) -> Iterator[str]:
             yield from texts_of_help(value)
 
 
+def texts_of_messages() -> Iterator[str]:
+    """The texts of the messages of mistakes/ and tests/, each without its place and the line that it shows."""
+    for path in sorted(it for folder in ("mistakes", "tests") for it in (TOP / folder).glob("*/*.t*t")):
+        _, mark, said = path.read_bytes().decode("utf-8", "replace").rpartition(SAID)
+        yield from (" ".join("".join(parts).split()) for parts in MESSAGE.findall(said) if mark)
+
+
 def page_of(name: str) -> str:
-    """A document, or the texts of help with a paragraph for each."""
-    return "\n\n".join(texts_of_help(commands.read())) if name == HELP else (TOP / name).read_text(encoding="utf-8")
+    """A document, or the texts of help or of messages with a paragraph for each."""
+    if name in TEXTS:
+        return "\n\n".join(texts_of_help(commands.read()) if name == HELP else texts_of_messages())
+    return (TOP / name).read_text(encoding="utf-8")
 
 
 def hundreds(count: int) -> int:
@@ -121,7 +133,7 @@ def figures():
         found[name] = {kind: mine[kind] for kind in KINDS if mine[kind]}
         kind = "internals" if name.startswith("docs/inside/") or name not in planned or name in FOR_CONTRIBUTORS else "user pages"
         together[kind] = together.get(kind, 0) + count
-    found[HELP] = {kind: len(list(FINDINGS[kind](page_of(HELP)))) for kind in OF_HELP}
+    found.update({name: {kind: len(list(FINDINGS[kind](page_of(name)))) for kind in kinds} for name, kinds in TEXTS.items()})
     return {**{kind: {"words": hundreds(count)} if count > TOGETHER else {} for kind, count in together.items()}, **found}
 
 
@@ -158,9 +170,9 @@ def compared(now: Any, before: Any) -> Iterator[Any]:
 
 def shown(names):
     for name in names:
-        page = page_of(HELP) if name == HELP else Path(name).read_text(encoding="utf-8")
+        page = page_of(name) if name in TEXTS else Path(name).read_text(encoding="utf-8")
         print(f"{name}: {words_in(page)} words")
-        for line, finding in sorted((line, f"{kind}: {finding}") for kind in (OF_HELP if name == HELP else FINDINGS) for line, finding in FINDINGS[kind](page)):
+        for line, finding in sorted((line, f"{kind}: {finding}") for kind in TEXTS.get(name, FINDINGS) for line, finding in FINDINGS[kind](page)):
             print(f"{name}:{line}: {finding}")
 
 
