@@ -146,12 +146,13 @@ def unchecked(tried, _):
     before = [Reason("the last good check of this call", reads.checks[-1])] if reads.checks else [Reason("no check since here", tried.serving.place)]
     if not reads.parts:
         return None if tried.serving.checked_at is not None else before
-    if tried.goes_from_base and tried.base is not None and tried.serving.base == Quality.WHILE_LISTED:
-        return [Reason("no check of the directory that was opened here", tried.serving.base_opened_at)]
     quality, at, byte, read = tried.weakest
-    if quality != Quality.WHILE_LISTED:
+    if quality == Quality.WHILE_LISTED:
+        return [*before, Reason(f"byte {byte} of the {named(tried, at)}", read.place)]
+    if not tried.goes_from_base or tried.base is None or tried.serving.base != Quality.WHILE_LISTED:
         return None
-    return [*before, Reason(f"byte {byte} of the {named(tried, at)}", read.place)]
+    # (behind a memory that was opened since, no check is said to have been good)
+    return before if tried.serving.checked_at is None else [Reason("no check of the directory that was opened here", tried.serving.base_opened_at)]
 
 
 def torn(tried, _):
