@@ -350,6 +350,14 @@ def linted(_):
     return "a script with a schedule", ended.unless("schedule-not-used: `explore-broker` doesn't go by the schedule" in ended.err and "\nhelp: leave it out" in ended.err)
 
 
+def noted(_):
+    """A rule that passes a call which is denied if other bytes stand in its memory is told behind the findings, once, and leaves the status as it is."""
+    ended = told_by_tool(script_at("followed"), "1", "--no-program", *python_broker("passes_nodes"), policy=BROKERS / "passes_nodes.json")
+    heads = [line for line in ended.out.split("\n") if line.startswith(("explored ", "finding ", "note ", "trouble "))]
+    wanted = ["explored broker delays=1 runs=3 histories=3 findings=0 whole=bound", 'note pass-by-memory by=default.mknod call=mknod "/null" denied=kept other=mknod "/kept/"']
+    return "a note on the policy", ended.unless(ended.status == 0 and heads == wanted)
+
+
 def interrupted(jobs):
     """An interrupt ends it at once, and the broker with it, however long a run may take."""
     with tempfile.TemporaryDirectory(prefix="explored-brokers-") as room:
@@ -408,7 +416,7 @@ def main():
         others = [
             *((clause_trial, shown) for shown in clauses.CLAUSES), *((style_trial, broker) for broker in styles.STYLES), *((slip_trial, slip) for slip in slips.SLIPS),
             *((counted, (script, program)) for script in SCRIPTS), *((as_process, it) for it in smallest), *((odd_trial, name) for name in ODD),
-            *((agent_trial, name) for name in agents()), *((differing, (name, program)) for name in DIFFERING), (two_instances, None), (listening, None), (linted, None),
+            *((agent_trial, name) for name in agents()), *((differing, (name, program)) for name in DIFFERING), (two_instances, None), (listening, None), (linted, None), (noted, None),
             *((interrupted, jobs) for jobs in ("1", "2")),
         ]
         for name, wrong in pool.imap_unordered(call, others, 1):

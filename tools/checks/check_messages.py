@@ -136,7 +136,7 @@ def command_faults(program: str, folder: str) -> Iterator[Any]:
                 yield f"{how}: status {ended}, {said!r}, output {output[:80]!r}"
 
 
-# what is said of files of calls and of requests that can't be read, and of a schedule that a word refuses: the words behind the program's, and the lines
+# what is said of files of calls and of requests that can't be read, of a schedule that a word refuses, and of what a play passes: the words behind the program's, and the lines
 OF_FILES = {
     ("explain", "--explain", "good.json", "call.txt"): ["read fault: calls", "call.txt: No such file or directory", "help: did you mean `calls.txt`?"],
     ("compare", "--explain", "good.json", "goode.json"): ["read fault: new policy", "goode.json: No such file or directory", "help: did you mean `good.json`?"],
@@ -153,6 +153,8 @@ OF_FILES = {
     ("handover", "--explain", "good.json", "requests.txt", "1"): [
         "script: requests in the schedule", "requests.txt:6:1: this is what a worker of another broker asks for", "    w 0 recv", "    ^~~~~~~~",
         "help: `handover` replaces this project's own worker, whose steps are counted, as in `w 0 9`; `play`", "      plays this schedule"],
+    ("judge", "--explain", "passing.json", "passed.txt"): ['note: passing.json: pass-by-memory by=default.mknod call=mknod "/null" denied=kept other=mknod "/kept/"'],
+    ("judge", "passing.json", "passed.txt"): [],
     ("step", "--explain", "good.json", "script.txt"): [
         "read fault: requests", "standard input can't be opened as /dev/stdin, or can't be read", "help: give it a pipe, a file or a terminal; a socket, or an input that is closed, can't be opened"],
 }
@@ -167,6 +169,8 @@ def file_faults(program, folder):
     Path(folder, "new.json").write_bytes(b'{"rule": []}\n')
     Path(folder, "requests.txt").write_bytes(b"notify mknod\nprog main\nend\nschedule\nt 0\nw 0 recv\nend\n")
     Path(folder, "long.txt").write_bytes(b"#" * 8_388_609)
+    Path(folder, "passing.json").write_bytes(b'{"rules": [{"name": "kept", "call": "mknod", "when": {"under": "/kept"}, "then": {"deny": "EPERM"}}]}\n')
+    Path(folder, "passed.txt").write_bytes(b'notify mknod\nprog main\npoke 0x10000 "/null\\0"\ncall mknod 0x10000 0o020666 259\nend\nschedule\nt 0 2\nw 0 9\nt 0 2\nend\n')
     for words, wanted in OF_FILES.items():
         here, there = socket.socketpair()
         with here, there:

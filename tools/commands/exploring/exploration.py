@@ -12,6 +12,7 @@ from tools.commands.exploring.foresight import Foresight, Foretold
 from tools.commands.exploring.runs import Kind, Past, Played, Run, Setting
 from tools.commands.exploring.schedules import Planned, followers, is_run_in
 from tools.commands.sharding.shares import WHOLE
+from tools.references.judging.passing import Note
 
 # how many runs one process takes at once
 AT_ONCE = 8
@@ -42,6 +43,8 @@ class Explored:
     histories: set = field(default_factory=set)
     findings: Dict[tuple, Found] = field(default_factory=dict)
     troubles: Dict[tuple, Found] = field(default_factory=dict)
+    # of each rule that passes calls of which other texts are denied, the first note
+    notes: Dict[str, Note] = field(default_factory=dict)
     is_whole: bool = True
 
     def take(self, played: Played):
@@ -51,6 +54,8 @@ class Explored:
             self.note(self.findings, played.told.about, played)
         if played.trouble is not None:
             self.note(self.troubles, tuple(played.trouble), played)
+        for note in played.notes:
+            self.notes.setdefault(note.rule, note)
 
     @staticmethod
     def note(known, key, played):

@@ -6,13 +6,14 @@ from enum import Enum
 from functools import lru_cache
 from hashlib import blake2b
 from itertools import islice
-from typing import Callable, Dict, List, NamedTuple, Optional
+from typing import Callable, Dict, List, NamedTuple, Optional, Tuple
 
 from tools.commands.exploring.bounds import Bounds, TooMuch
 from tools.commands.exploring.foresight import Foreseen, Foresight, Foretold
 from tools.commands.exploring.instances import Hangs, InlineInstance, NotSupported, ProcessInstance, drive
 from tools.commands.exploring.kernels import Asked, Difference, Kernel
 from tools.commands.exploring.schedules import Choice, Planned, first_difference
+from tools.references.judging.passing import Note, notes
 from tools.references.stepping.sessions import Session
 
 SEATS = 16
@@ -34,8 +35,9 @@ class Files:
     script: str
     rules: list
     container: object
-    # what the rules were found to decide
+    # what the rules were found to decide, and what they deny beside calls that they pass
     decided: dict = field(default_factory=dict)
+    denied: dict = field(default_factory=dict)
 
     def words(self, program):
         """The words that start a program on them."""
@@ -126,6 +128,8 @@ class Played:
     digest: bytes = b""
     told: Optional[Told] = None
     trouble: Optional[Trouble] = None
+    # what the policy passes, and denies for other texts
+    notes: Tuple[Note, ...] = ()
     # of a run that is told: what was asked, how much of it leads to the broken clause, the report, the script that plays to it, if there is one, and what the broker has written
     session: List[Asked] = field(default_factory=list)
     shown: int = 0
@@ -346,6 +350,7 @@ class Run:
         self.played.steps = fault.place if fault is not None else len(state.events) - 1
         self.played.digest = self.hash.digest()
         self.played.shown = self.shown if self.shown is not None else len(self.kernel.requests)
+        self.played.notes = tuple(notes(self.kernel.judge, self.setting.files.denied))
         is_judged = self.played.trouble is None or self.played.trouble.kind is not Kind.JUDGES_DIFFER
         if fault is not None and is_judged:
             entry = self.kernel.judge.entries.get(fault.call)

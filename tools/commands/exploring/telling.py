@@ -54,6 +54,7 @@ def whole_text(explored: Explored, share=None):
     counts = f"delays={explored.delays} runs={explored.runs} histories={len(explored.histories)} findings={len(explored.findings)}"
     lines = [f"explored broker {counts} whole={'bound' if explored.is_whole else 'no'}{f' shard={share}' if share else ''}\n"]
     lines += [finding_text(number, found) for number, found in enumerate(explored.in_order(explored.findings), 1)]
+    lines += [f"note {note.text}\n" for note in explored.notes.values()]
     lines += [trouble_text(number, found) for number, found in enumerate(explored.in_order(explored.troubles), 1)]
     return "".join(lines)
 

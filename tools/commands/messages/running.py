@@ -13,6 +13,8 @@ from tools.commands.messages.speaking import say
 # in bytes
 MOST_OF_A_POLICY = 1 << 20
 OF_THE_COMMAND, OF_ALL_WORDS = b"broker: ", b"usage: "
+# how `judge` ends where it has judged
+JUDGED = (0, 11)
 # the words that play a script's schedule
 SCHEDULED = ("play", "handover", "judge")
 # what is likely a mistake, but only where a schedule is played
@@ -75,6 +77,23 @@ def warnings(entry: Dict[str, Any], operands: List[str], asked: bool) -> Iterato
             yield from (message(it, files["script"], Text(script), "warning: ") for it in found)
 
 
+def passed_by_memory(entry, operands):
+    """Notes on the calls that the play of a script passes, and that are denied if other bytes stand in their memory."""
+    from tools.commands.messages.refusals import data_of, files_in
+    from tools.references.judging.passing import notes
+    from tools.references.stepping import policies, scripts
+    from tools.references.stepping.plays import played
+    from tools.references.stepping.sessions import Session
+    files = files_in(entry, operands, 0)
+    policy, script = data_of(files["policy"]), data_of(files["script"])
+    if policy is None or script is None:
+        return []
+    rules, container = policies.read_policy(policy), scripts.read_script(script)
+    session = Session(rules, container)
+    played(session, rules, container, session.judge.hear)
+    return [f"note: {files['policy']}: {note.text}" for note in notes(session.judge, {})]
+
+
 def has_config(operand: str) -> bool:
     """Whether a file may be a policy with LXD's keys, of which one may be misspelled."""
     try:
@@ -89,14 +108,15 @@ def has_config(operand: str) -> bool:
 def told(entry: Dict[str, Any], operands: List[str], command: str, path: str, status: int, line: str, asked: bool) -> List[str]:
     """The lines that are added to what the program said."""
     # (what a call doesn't need isn't read for it: that takes longer than most plays)
+    noted = passed_by_memory(entry, operands) if asked and entry["word"] == "judge" and status in JUDGED else []
     if status > 0:
         from tools.commands.messages.refusals import Said
         from tools.commands.messages.reports import explained_report
         said = Said(entry, operands, line, command)
-        return said.explained(lambda files, number: explained_report(path, files, number))
+        return [*said.explained(lambda files, number: explained_report(path, files, number)), *noted]
     if status < 0 or not asked and not any(map(has_config, operands)):
         return []
-    return [line for lines in warnings(entry, operands, asked) for line in lines]
+    return [*(line for lines in warnings(entry, operands, asked) for line in lines), *noted]
 
 
 def finish(path: str, entry: Dict[str, Any], operands: List[str], command: str, status: int, line: str, asked: bool) -> int:

@@ -10,6 +10,7 @@ from tools.commands.exploring.kernels import Asked
 from tools.commands.exploring.runs import Kind, Played, Told, Trouble
 from tools.commands.exploring.schedules import Delay, Planned
 from tools.commands.sharding.shares import Described, Share, Unlike
+from tools.references.judging.passing import NAME, Note
 
 if TYPE_CHECKING:
     from tools.commands.exploring.exploration import Found
@@ -53,6 +54,10 @@ def trouble_of(trouble: Optional[Trouble]) -> Dict[str, Union[int, str]]:
     return {"kind": trouble.kind.value, "instance": trouble.instance, "text": trouble.text}
 
 
+def note_of(note: Note) -> Dict[str, Any]:
+    return {"name": NAME, "rule": note.rule, "call": note.call, "against": note.against, "other": note.other}
+
+
 def schedule_of(played: Played, is_shown: bool) -> Dict[str, Any]:
     """A run, as a share tells it. Only the smallest ones of what was found are shown."""
     found = {"delays": [list(it) for it in played.planned.delays], "steps": played.steps, "history": played.digest.hex()}
@@ -60,6 +65,8 @@ def schedule_of(played: Played, is_shown: bool) -> Dict[str, Any]:
         found["finding"] = told_of(played.told)
     if played.trouble is not None:
         found["trouble"] = trouble_of(played.trouble)
+    if played.notes:
+        found["notes"] = [note_of(it) for it in played.notes]
     return {**found, "shown": shown_of(played)} if is_shown else found
 
 
@@ -72,6 +79,7 @@ def document(explored: Explored) -> Dict[str, Any]:
     return {
         "word": WORD, "delays": explored.delays, "runs": explored.runs, "histories": len(explored.histories), "whole": "bound" if explored.is_whole else "no",
         "findings": [{**heading(it), **told_of(it.played.told), **shown_of(it.played)} for it in explored.in_order(explored.findings)],
+        "notes": [note_of(it) for it in explored.notes.values()],
         "troubles": [{**heading(it), **trouble_of(it.played.trouble), **shown_of(it.played)} for it in explored.in_order(explored.troubles)],
     }
 
@@ -104,6 +112,7 @@ def played_of(schedule: Dict[str, Any]) -> Played:
         Planned(tuple(Delay(*it) for it in schedule["delays"])), steps=schedule["steps"], digest=bytes.fromhex(schedule["history"]),
         told=Told(told["clause"], told["class"], told["task"], told["call"], told["text"]) if told else None,
         trouble=Trouble(Kind(trouble["kind"]), trouble["instance"], trouble["text"]) if trouble else None,
+        notes=tuple(Note(it["rule"], it["against"], it["call"], it["other"]) for it in schedule.get("notes", ())),
         session=[Asked(it.encode("latin-1"), b"") for it in shown["requests"]], shown=len(shown["requests"]), output=shown["output"].encode())
 
 

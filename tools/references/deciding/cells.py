@@ -122,10 +122,10 @@ def is_for(rule: Rule, call: Optional[str]) -> bool:
     return call is None if rule.calls == OTHER_CALLS else call in rule.calls
 
 
-def sides(placed: List[Tuple[int, Rule]], call: Optional[str], field: str) -> List[Tuple[int, Any]]:
-    """The values of a field, one for each set of rules whose conditions on it a value meets, with that set."""
+def sides(placed: List[Tuple[int, Rule]], call: Optional[str], field: str, values: Optional[Iterable[Any]] = None) -> List[Tuple[int, Any]]:
+    """The values of a field, one for each set of rules whose conditions on it a value meets, with that set; `values` are those that are tried."""
     found: Dict[int, Any] = {}
-    for value in VALUES[field]([rule for _, rule in placed]):
+    for value in VALUES[field]([rule for _, rule in placed]) if values is None else values:
         request = request_of(call, **{field: value})
         met = sum(1 << place for place, rule in placed if all(meets(request, it) for it in rule.conditions if FIELD_OF[it.name] == field))
         found.setdefault(met, value)

@@ -12,7 +12,7 @@ from tools.references.judging.effects import ACT, PLANT, PUT, TriedEffect
 from tools.references.judging.faults import Fault, Reason
 from tools.references.judging.servings import Effect, Entry, Serving
 from tools.references.judging.tables import Tables
-from tools.references.stepping.facts import SEND, Fail
+from tools.references.stepping.facts import CONTINUE, SEND, Fail
 from tools.references.stepping.kernel import Call, Kernel, Task
 from tools.references.stepping.rules import Rule
 from tools.references.stepping.trees import EBADF
@@ -62,6 +62,8 @@ class Judge:
         self.times: Dict[str, List[int]] = {}
         # where each worker has opened the memory that it has
         self.opened_memory: Dict[int, int] = {}
+        # the calls that were passed for their texts, by the number, the arguments and the texts, each with its rule
+        self.passes: Dict[tuple, Rule] = {}
 
     def hear(self) -> None:
         """Takes the newest event of the kernel, if it is one that wasn't taken yet."""
@@ -223,9 +225,18 @@ class Judge:
             return
         if serving.answered_at is None:
             serving.answered_at = place
+        if answer is None and back == CONTINUE:
+            self.note_passed(tried)
         source = tried.effect if tried.effect is not None and tried.effect.has_succeeded else tried.remembered if tried.is_value else None
         if source is not None and answer is None:
             source.used_at = place
+
+    def note_passed(self, tried):
+        """Notes the copies for which the policy passes a call."""
+        for texts in (copy.texts for copy in tried.known if copy.texts):
+            rule = self.rule_for(tried.call, texts)
+            if rule.verdict == "pass":
+                self.passes.setdefault((tried.call.number, tried.call.args, texts), rule)
 
     def unused_effect(self, call, copies):
         """An effect that succeeded for an earlier call of the same task, with equal registers and the texts of one of these copies, and whose outcome no call has returned."""
