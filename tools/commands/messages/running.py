@@ -77,7 +77,7 @@ def warnings(entry: Dict[str, Any], operands: List[str], asked: bool) -> Iterato
             yield from (message(it, files["script"], Text(script), "warning: ") for it in found)
 
 
-def passed_by_memory(entry, operands):
+def passed_by_memory(entry: Dict[str, Any], operands: List[str]) -> List[str]:
     """Notes on the calls that the play of a script passes, and that are denied if other bytes stand in their memory."""
     from tools.commands.messages.refusals import data_of, files_in
     from tools.references.judging.passing import notes

@@ -54,7 +54,7 @@ def trouble_of(trouble: Optional[Trouble]) -> Dict[str, Union[int, str]]:
     return {"kind": trouble.kind.value, "instance": trouble.instance, "text": trouble.text}
 
 
-def note_of(note: Note) -> Dict[str, Any]:
+def note_of(note: Note) -> Dict[str, str]:
     return {"name": NAME, "rule": note.rule, "call": note.call, "against": note.against, "other": note.other}
 
 

@@ -231,7 +231,7 @@ class Judge:
         if source is not None and answer is None:
             source.used_at = place
 
-    def note_passed(self, tried):
+    def note_passed(self, tried: answers.TriedAnswer) -> None:
         """Notes the copies for which the policy passes a call."""
         for texts in (copy.texts for copy in tried.known if copy.texts):
             rule = self.rule_for(tried.call, texts)

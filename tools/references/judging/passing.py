@@ -1,7 +1,7 @@
 """Notes on passed calls that would be denied if other bytes stood behind the same registers. They are the policy's, and break no clause."""
 from __future__ import annotations
 
-from typing import Dict, Iterator, NamedTuple, Optional, Tuple
+from typing import Any, Dict, Iterator, NamedTuple, Optional, Set, Tuple
 
 from tools.references.deciding.passed import Denied, denied_beside
 from tools.references.stepping.facts import call_text, quoted
@@ -25,8 +25,9 @@ class Note(NamedTuple):
         return f"{NAME} by={self.rule} call={self.call} denied={self.against} other={self.other}"
 
 
-def shown(number, request) -> str:
+def shown(number: int, request: Any) -> str:
     """A call by its texts."""
+    texts: Tuple[bytes, ...] = ()
     if isinstance(request, (Mknod, OpenAt)):
         texts = (request.path,)
     elif isinstance(request, Mount):
@@ -36,9 +37,9 @@ def shown(number, request) -> str:
     return " ".join([call_text(number), *map(quoted, texts)])
 
 
-def notes(judge, known: Dict[Passed, Optional[Denied]]) -> Iterator[Note]:
+def notes(judge: Any, known: Dict[Passed, Optional[Denied]]) -> Iterator[Note]:
     """One for each rule that passes such calls, in the order of the first ones. `known` keeps what was found of calls, in this history or in others."""
-    told = set()
+    told: Set[str] = set()
     for passed, rule in judge.passes.items():
         if rule.name in told:
             continue
