@@ -260,7 +260,7 @@ def words_of_copies(_, room):
     yield from told("bytes behind a zero", 'reads "/null" at 0x10000, and 3 bytes after its zero' in stale, str(stale))
     report, _ = judged(room, "puts_and_sends", "one_file")
     scene = view_of(text_of(report).encode())["scene"]
-    yield from told("the path of a descriptor", "puts its descriptor 5 into the caller, as /a" in scene["words"], str(scene["words"]))
+    yield from told("the path of a descriptor", "puts its descriptor 5 into the caller, without an answer, as /a" in scene["words"], str(scene["words"]))
     yield from told("a path among the arguments", ["path", "65789", '0x100fd, "/a"'] in scene["calls"][0][7], str(scene["calls"]))
 
 
