@@ -4,7 +4,7 @@ from __future__ import annotations
 import sys
 from argparse import Namespace
 from collections import Counter
-from typing import List, Optional, Tuple
+from typing import List, Tuple
 
 from tools.commands.command_line.arguments import Parser
 from tools.commands.command_line.ending import reason
@@ -16,7 +16,7 @@ WIDEST = 72
 HEADS = ("line", "process", "call", "traced", "play", "decided by", "difference")
 
 
-def words() -> Optional[Namespace]:
+def words() -> Namespace:
     parser = Parser(TOOL)
     parser.add_argument("script", metavar="SCRIPT")
     parser.add_argument("report", metavar="REPORT")

@@ -5,7 +5,6 @@ import argparse
 import json
 import subprocess
 import sys
-from typing import Optional
 
 from tools.commands.command_line import place, table
 from tools.commands.command_line.arguments import Parser
@@ -23,7 +22,7 @@ class Words(Parser):
         self.exit(WRONG_WORDS, f"{self.format_usage()}json: {message}\n")
 
 
-def asked() -> Optional[argparse.Namespace]:
+def asked() -> argparse.Namespace:
     """What was asked for: the program, a word, and the operands behind it."""
     parser = Words("json")
     parser.add_argument("--program", metavar="PATH", help="runs this program, in place of the command's own")

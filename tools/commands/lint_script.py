@@ -62,7 +62,7 @@ def findings(program: str, data: bytes, use: str) -> Any:
     return [scripts.finding_of(data, *refused)] if refused else likely.findings(Text(data), use)
 
 
-def main() -> Optional[int]:
+def main() -> int:
     words = asked()
     try:
         with open(words.file, "rb") as file:

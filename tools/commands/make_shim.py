@@ -5,7 +5,6 @@ import os
 import subprocess
 import sys
 from pathlib import Path
-from typing import Optional
 
 from tools.commands.command_line import place
 from tools.commands.command_line.arguments import Parser
@@ -22,7 +21,7 @@ def usual():
     return TOP / "dist" / NAME if place.about() is None else Path(NAME)
 
 
-def asked() -> Optional[Path]:
+def asked() -> Path:
     parser = Parser("make-shim")
     parser.add_argument("file", metavar="FILE", nargs="?", type=Path, help="the library that is written")
     return parser.parse_args().file or usual()

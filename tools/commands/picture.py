@@ -4,7 +4,7 @@ from __future__ import annotations
 import os
 import sys
 from argparse import Namespace
-from typing import Any, Dict, Optional
+from typing import Any, Dict
 
 from tools.commands.command_line import written
 from tools.commands.command_line.arguments import Parser
@@ -42,7 +42,7 @@ def title_of(path: str, view: Dict[str, Any]) -> str:
     return TITLES[view["kind"]] if path == "-" else "/".join(whole.split("/")[-2:])
 
 
-def main() -> Optional[int]:
+def main() -> int:
     asked = arguments()
     try:
         data = bytes_of(asked.report)

@@ -6,7 +6,6 @@ import subprocess
 import sys
 from argparse import Namespace
 from pathlib import Path
-from typing import Optional
 
 from tools.commands.command_line.arguments import Parser
 
@@ -16,7 +15,7 @@ MOVING = ("read", "write", "pread64", "pwrite64", "readv", "writev", "preadv", "
 WORDS = ["strace", "-f", "-X", "raw", "-xx", "-s", "4096", "-y", "--pidns-translation", "--quiet=attach", "-e", f"trace=!{','.join(MOVING)}"]
 
 
-def words() -> Optional[Namespace]:
+def words() -> Namespace:
     parser = Parser("record")
     parser.add_argument("-o", dest="trace", metavar="TRACE", default="strace.txt", help="the file to write")
     parser.add_argument("--attach", type=int, metavar="PID", help="a process that runs")

@@ -120,7 +120,7 @@ class Operands:
         if len(self.left) > count:
             raise Fault(WRONG_COUNT, self.left[count])
 
-    def take(self, operand: Operand) -> Optional[Token]:
+    def take(self, operand: Operand) -> Token:
         token = self.left.pop(0)
         reason = reason_of(operand, token)
         if reason:

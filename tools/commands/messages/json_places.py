@@ -106,7 +106,7 @@ class Scanner:
         start = self.at if start is None else start
         raise NotJson(name, start, start + 1 if end is None else end, words, cure)
 
-    def document(self) -> Optional[Value]:
+    def document(self) -> Value:
         """The value that the whole text is."""
         self.look_at_bytes()
         if not self.text.strip():
@@ -147,7 +147,7 @@ class Scanner:
         closing = "".join(CLOSING[self.text[at]] for at in reversed(self.open))
         self.refuse("not-closed", f"the file ends, and this {kind} isn't closed", f"{what}, and then `{closing}`" if what else f"add `{closing}`", opening)
 
-    def value(self) -> Optional[Value]:
+    def value(self) -> Value:
         letter = self.next()
         if letter in CLOSING:
             return self.nested(letter)
@@ -156,7 +156,7 @@ class Scanner:
             return Value("string", start, plain=self.string(), end=self.at)
         return self.scalar()
 
-    def nested(self, letter: str) -> Any:
+    def nested(self, letter: str) -> Value:
         self.open.append(self.at)
         if len(self.open) > MOST_NESTED:
             self.refuse("too-deep", f"more than {MOST_NESTED} objects and arrays are in one another", f"a {self.subject.name} needs {self.subject.nested} at most")
@@ -165,7 +165,7 @@ class Scanner:
         self.open.pop()
         return value
 
-    def object(self):
+    def object(self) -> Value:
         value = Value("object", self.at)
         self.at += 1
         while not self.ends("}", bool(value.members)):
@@ -179,7 +179,7 @@ class Scanner:
             value.members[key] = member
         return value
 
-    def array(self) -> Optional[Value]:
+    def array(self) -> Value:
         value = Value("array", self.at)
         self.at += 1
         while not self.ends("]", bool(value.items)):

@@ -1,7 +1,7 @@
 """Which rule decides a call of a report, and what the call misses of each rule before it: the program explains the call by the policy that stands in the page."""
 from __future__ import annotations
 
-from typing import TYPE_CHECKING, Any, Dict, List, Optional
+from typing import TYPE_CHECKING, Any, Dict, List
 
 from tools.commands.json_documents.explanations import MISSES, VERDICTS, explanation_of, written
 from tools.commands.real_workloads.script_text import CALLS, PIECE
@@ -27,7 +27,7 @@ class NotExplained(Exception):
     """A call can't be explained; the text says why."""
 
 
-def events_of(trail: bytes) -> Optional[List[Event]]:
+def events_of(trail: bytes) -> List[Event]:
     """The events of a trail: the lines of a journal that tell of one call, from where it was entered on."""
     try:
         return [event_of(line, line.partition(" ")[0]) for line in lines_of(trail, LIMITS["trail"])]

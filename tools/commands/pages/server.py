@@ -11,7 +11,7 @@ import threading
 import time
 import traceback
 from http.server import BaseHTTPRequestHandler, ThreadingHTTPServer
-from typing import Any, Callable, Dict, List, Optional, Tuple, Union
+from typing import Any, Callable, Dict, Optional, Tuple
 
 from tools.commands.pages.comparisons import LINT_SCRIPT, OF_POLICIES, of_policies, of_script
 from tools.commands.pages.decisions import EXPLAIN, explained
@@ -73,7 +73,7 @@ def asked_of(body, form, more):
     return found, {name: asked[name] for name in (*form.numbers, *form.choices, *more)}
 
 
-def bytes_of(name: str, text: Optional[Union[List[str], int, str]]) -> Optional[bytes]:
+def bytes_of(name: str, text: Any) -> bytes:
     if not isinstance(text, str):
         raise Refused(400, f"{name} is no text")
     try:

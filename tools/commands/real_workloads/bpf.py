@@ -2,7 +2,7 @@
 from __future__ import annotations
 
 import struct
-from typing import Any, Iterable, List, NamedTuple, Optional, Tuple
+from typing import Any, Iterable, List, NamedTuple, Tuple
 
 X86_64 = 0xC000003E
 WORDS = {
@@ -91,7 +91,7 @@ def notify_filter(numbers: List[int]) -> List[Instruction]:
             Instruction(WORDS["ld"], 0, 0, 0), *tests, Instruction(WORDS["ret"], 0, 0, ALLOW), Instruction(WORDS["ret"], 0, 0, NOTIFY)]
 
 
-def read_blocks(text: str) -> Optional[List[Filter]]:
+def read_blocks(text: str) -> List[Filter]:
     """The filters of lines as a script has them. Raises ValueError, with the line's number, where one isn't such a line."""
     filters, block = [], None
     for at, words in enumerate((it.split() for it in text.splitlines()), 1):

@@ -4,7 +4,7 @@ from __future__ import annotations
 import ctypes
 import errno
 import os
-from typing import Optional
+from typing import Any, Optional
 
 SEIZE, INTERRUPT, DETACH, GET_FILTER = 0x4206, 0x4207, 17, 0x420C
 ALL_CHILDREN = 0x40000000
@@ -19,7 +19,7 @@ class Refused(Exception):
     """The kernel refuses. The text says what."""
 
 
-def trace(request: int, pid: int, address: Optional[int] = None, data: Optional[ctypes.c_void_p] = None) -> Optional[int]:
+def trace(request: int, pid: int, address: Optional[int] = None, data: Any = None) -> int:
     """A call of ptrace. Raises OSError."""
     found = libc.ptrace(request, pid, address, data)
     if found < 0:

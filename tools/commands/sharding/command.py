@@ -4,7 +4,7 @@ from __future__ import annotations
 import json
 import sys
 from argparse import Namespace
-from typing import Any, Dict, List, Optional, Tuple
+from typing import Any, Dict, List, Tuple
 
 from tools.commands.command_line import written
 from tools.commands.command_line.arguments import Parser
@@ -143,7 +143,7 @@ def run(words: Namespace) -> int:
     return NOT_WHOLE if lost else whole.status
 
 
-def main(words: List[str]) -> Optional[int]:
+def main(words: List[str]) -> int:
     try:
         return run(asked(words))
     except NotJoined as fault:

@@ -1,7 +1,7 @@
 """Results of test files, as JSON documents or as XML: what joins those of shares."""
 from __future__ import annotations
 
-from typing import Any, Dict, Iterable, Iterator, List, Optional, Sequence, Tuple, Union
+from typing import Any, Dict, Iterable, Iterator, List, Sequence, Tuple, Union
 from xml.etree import ElementTree
 
 from tools.commands.sharding.shares import Described, NotJoined, Share, share
@@ -51,7 +51,7 @@ def lines(document: Dict[str, Any]) -> Iterator[str]:
 # ---- XML
 
 
-def read_xml(data: bytes) -> Optional[ElementTree.Element]:
+def read_xml(data: bytes) -> ElementTree.Element:
     """The root of results as XML. Raises NotJoined."""
     if b"<!" in data:
         raise NotJoined("declarations of types aren't read")

@@ -1,7 +1,7 @@
 """Which rule of a policy decides each call of a file, and what the call misses of each rule before it, by what docs/reference/OUTPUTS.md says (An explanation)."""
 from __future__ import annotations
 
-from typing import TYPE_CHECKING, Any, Optional, Tuple, Union
+from typing import TYPE_CHECKING, Any, List, Tuple, Union
 
 from tools.commands.messages.calls import BITS, fault_of
 from tools.commands.messages.policy_words import FLAGS
@@ -13,6 +13,7 @@ from tools.references.stepping.lexing import LineFault, tokens_of
 from tools.references.stepping.rules import MEETS, OTHER_CALLS, Mknod, Mount, OpenAt, Other, SetXattr, Sysinfo, call_of, decide, dirfd_of, has_flag, kind_of, path_of
 
 if TYPE_CHECKING:
+    from tools.references.stepping.rules import Rule
     from tools.commands.messages.script_lines import Token
 
 TYPES = {"reg": 0o100000, "chr": 0o020000, "blk": 0o060000, "fifo": 0o010000, "sock": 0o140000}
@@ -147,7 +148,7 @@ def reason_of(rule: Any) -> str:
     return f' reason="{CAUSES.get(rule.name) or ("no other rule fits" if rule.name.startswith("default.") else "the rule says so")}"'
 
 
-def explanation(rules: Any, data: bytes) -> Optional[str]:
+def explanation(rules: List[Rule], data: bytes) -> str:
     """What is told of the calls of a file. Raises Refused."""
     found = []
     for number, request in list(calls_of(data)):

@@ -2,7 +2,7 @@
 from __future__ import annotations
 
 import re
-from typing import List, Optional
+from typing import List
 
 from tools.commands.messages.script_lines import Token
 
@@ -40,7 +40,7 @@ def is_touched(token: Token, line: bytes) -> bool:
     return following == b'"' or (token.is_quoted and BARE.match(following) is not None)
 
 
-def tokens_of(line: bytes) -> Optional[List[Token]]:
+def tokens_of(line: bytes) -> List[Token]:
     """The tokens of a line without its newline; none of a comment. Raises LineFault for its leftmost fault."""
     line = line[:-1] if line.endswith(b"\r") else line
     found, at = [], 0

@@ -53,7 +53,7 @@ def look_at_descriptor(kernel: Kernel, pid: int, number: int) -> str:
     return "look console" if slot[0] == "console" else f"look file {slot[1]}"
 
 
-def unfollowed(tree: Any, path: bytes, base: int) -> Optional[int]:
+def unfollowed(tree: Tree, path: bytes, base: int) -> Any:
     """The node to which a path leads whose last component isn't followed. Raises Walk."""
     try:
         place = tree.walk(path, base, creates=True)

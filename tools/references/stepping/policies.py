@@ -4,7 +4,7 @@ from __future__ import annotations
 import errno
 import json
 import re
-from typing import TYPE_CHECKING, Any, Dict, List, Optional, Tuple, Union
+from typing import TYPE_CHECKING, Any, Dict, List, Tuple, Union
 
 from tools.commands.messages import policy_words as words
 from tools.commands.real_workloads.script_text import CALLS
@@ -247,7 +247,7 @@ class RuleReader:
     def read_when(self, value):
         self.stated["conditions"] = tuple(self.condition(key, member) for key, member in members(value, f"{self.place}.when"))
 
-    def condition(self, key: str, value: Union[Dict[str, List[str]], int, str]) -> Optional[Condition]:
+    def condition(self, key: str, value: Any) -> Condition:
         known = words.CONDITIONS.get(key)
         if known is None or (known.profile and not self.profile):
             refuse_key(f"{self.place}.when.{quoted_key(key)}")
@@ -299,14 +299,14 @@ def refuse_constant(name):
     raise ValueError(name)
 
 
-def value_of(data: bytes) -> Optional[Dict[str, Any]]:
+def value_of(data: bytes) -> Any:
     try:
         return json.loads(data.decode(), parse_constant=refuse_constant)
     except (ValueError, RecursionError):
         raise Refused("not JSON") from None
 
 
-def read_policy(data):
+def read_policy(data: bytes) -> List[Rule]:
     """The rules of a policy's bytes. Raises Refused."""
     value = value_of(data)
     if not isinstance(value, dict):

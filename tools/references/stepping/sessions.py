@@ -2,7 +2,7 @@
 from __future__ import annotations
 
 import struct
-from typing import Any, Callable, Optional
+from typing import Any, Callable
 
 from tools.references.judging.judge import Judge
 from tools.references.stepping.facts import CONTINUE, O_CLOEXEC, SEND, SETFD, Addfd, Fail
@@ -84,7 +84,7 @@ class Session:
         receives = ["recv"] if self.kernel.received < self.kernel.entered_calls else []
         return " ".join(["able", *names, *receives])
 
-    def step(self, name: Any) -> Optional[str]:
+    def step(self, name: Any) -> str:
         if name not in self.kernel.tasks:
             raise Refused("no task")
         return self.told(self.kernel.step(self.kernel.tasks[name]))
@@ -113,18 +113,18 @@ class Session:
         found = event.facts[2]
         return self.told(event) if isinstance(found, Fail) else f"{self.told(event)} bytes={found.hex() or '-'}"
 
-    def plant(self, number: int, address: int, content: bytes) -> Optional[str]:
+    def plant(self, number: int, address: int, content: bytes) -> str:
         if self.kernel.worker(number).memory is None:
             raise Refused("no memory is open")
         return self.told(self.kernel.plant(number, address, content))
 
-    def put(self, number: int, *fields: int) -> Optional[str]:
+    def put(self, number: int, *fields: int) -> str:
         if self.kernel.worker(number).request is not None:
             raise Refused("request is put")
         asked = Addfd(*fields)
         return self.told(self.kernel.put(number, asked)) if may_be_put(asked) else INVALID
 
-    def take(self, number: int) -> Optional[str]:
+    def take(self, number: int) -> str:
         if self.kernel.worker(number).request is None:
             raise Refused("no request")
         return self.told(self.kernel.take(number))

@@ -1,7 +1,7 @@
 """The container's tree: nodes, attributes and mounts, and how paths are walked over it (docs/KERNEL.md; path_resolution(7))."""
 from __future__ import annotations
 
-from typing import Any, List, Optional, Tuple, Union
+from typing import Any, List, Optional, Tuple
 
 from tools.references.stepping.facts import Fail, major_of, minor_of
 from tools.references.stepping.rules import Mknod, Mount, SetXattr, kind_of
@@ -54,7 +54,7 @@ class Tree:
             node = self.covered[node]
         return node
 
-    def walk(self, path: bytes, base: Optional[int], creates: bool) -> Optional[Union[Tuple[int, bytes], int]]:
+    def walk(self, path: bytes, base: Optional[int], creates: bool) -> Any:
         """The node to which a path leads; or the directory and the name of a new node. Raises Walk."""
         if not path:
             raise Walk(ENOENT)
