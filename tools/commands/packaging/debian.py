@@ -74,14 +74,14 @@ def shared_libraries(paths: List[str], own: Any) -> List[str]:
     return [it for it in found if it and it != own]
 
 
-def symbols(made, path):
+def symbols(made: Made, path: str) -> str:
     """The library's symbols file, as dpkg-gensymbols writes it: each symbol with the first version that has it."""
     listed = subprocess.run(["readelf", "--dyn-syms", "--wide", path], stdout=subprocess.PIPE, check=True, universal_newlines=True).stdout
     names = sorted({it for it in re.findall(r"\bGLOBAL\s+DEFAULT\s+\d+\s+(\w+)", listed)})
     return "".join([f"{files.SONAME} libseccomp-broker1 #MINVER#\n", *(f" {name}@Base {since(made)}\n" for name in names)])
 
 
-def since(made):
+def since(made: Made) -> str:
     """The least version of the library that has today's symbols: also a trial build of the same number."""
     return f"{made.version}~"
 

@@ -6,12 +6,15 @@ import os
 import re
 import subprocess
 import tempfile
-from typing import Any, Dict, List, Set, Tuple
+from typing import TYPE_CHECKING, Any, Dict, List, Set, Tuple
 
 from tools.commands.command_line import table
 from tools.commands.packaging import completions, manual, made as making
 from tools.commands.packaging.made import TOP, NotMade
 from tools.commands.packaging.tree import File, Link, below, folders_of, read, text, zipped
+
+if TYPE_CHECKING:
+    from tools.commands.packaging.made import Made
 
 HOME, SHARE = "lib/seccomp-broker", "share/seccomp-broker"
 SONAME = "libseccomp_broker.so.1"
@@ -51,7 +54,7 @@ def replaced(content: str, pairs: List[Tuple[str, str]], name: str) -> str:
     return content
 
 
-def stripped(path):
+def stripped(path: str) -> File:
     """A library without the names that nothing outside it can use."""
     with tempfile.NamedTemporaryFile() as room:
         subprocess.run(["strip", "--strip-unneeded", "-o", room.name, path], check=True)
@@ -135,12 +138,12 @@ def linked(there: Set[str], elsewhere: Set[str], name: str, link: re.Match[str])
     return link[0] if path in there else f"{link[1]} (`{path}`)" if path in elsewhere and path not in link[1] else link[1]
 
 
-def command(made, python="/usr/bin/env python3"):
+def command(made: Made, python: str = "/usr/bin/env python3") -> Dict[str, Any]:
     """The command with its tools, pages, examples, man pages and completions."""
-    home = {**tools(python), "seccomp_broker": read(made.program)._replace(mode=0o755), **{name: Link(f"../../share/seccomp-broker/{name}") for name in ("examples", "include", "lib")},
-            "about.json": text(json.dumps(making.about(made), indent=1) + "\n")}
+    home: Dict[str, Any] = {**tools(python), "seccomp_broker": read(made.program)._replace(mode=0o755), **{name: Link(f"../../share/seccomp-broker/{name}") for name in ("examples", "include", "lib")},
+                            "about.json": text(json.dumps(making.about(made), indent=1) + "\n")}
     share = {**shared(), "proof.txt": text(making.proof_text(made))}
-    found = {"bin/seccomp-broker": Link("../lib/seccomp-broker/broker"), **below(home, HOME), **below(share, SHARE)}
+    found: Dict[str, Any] = {"bin/seccomp-broker": Link("../lib/seccomp-broker/broker"), **below(home, HOME), **below(share, SHARE)}
     for name, page in manual.pages(made.name, made.time).items():
         found[f"share/man/man{name[-1]}/{name}.gz"] = File(zipped(page.encode()))
     for path, content in completions.files().items():
@@ -148,15 +151,15 @@ def command(made, python="/usr/bin/env python3"):
     return found
 
 
-def shared_library(made, libdir):
+def shared_library(made: Made, libdir: str) -> Dict[str, Any]:
     """What a program needs that is linked with the library."""
     return {f"{libdir}/{SONAME}": stripped(f"{made.library}/lib/{SONAME}")}
 
 
-def development(made, libdir, prefix):
+def development(made: Made, libdir: str, prefix: str) -> Dict[str, Any]:
     """What is needed to link with the library."""
-    found = {"include/seccomp_broker.h": read(f"{TOP}/include/seccomp_broker.h"), f"{libdir}/libseccomp_broker.a": read(f"{made.library}/lib/libseccomp_broker.a"),
-             f"{libdir}/libseccomp_broker.so": Link(SONAME), f"{libdir}/pkgconfig/seccomp_broker.pc": text(PKG_CONFIG.format(prefix=prefix, libdir=libdir, version=made.version))}
+    found: Dict[str, Any] = {"include/seccomp_broker.h": read(f"{TOP}/include/seccomp_broker.h"), f"{libdir}/libseccomp_broker.a": read(f"{made.library}/lib/libseccomp_broker.a"),
+                             f"{libdir}/libseccomp_broker.so": Link(SONAME), f"{libdir}/pkgconfig/seccomp_broker.pc": text(PKG_CONFIG.format(prefix=prefix, libdir=libdir, version=made.version))}
     for name, page in manual.pages(made.name, made.time, "library").items():
         found[f"share/man/man{name[-1]}/{name}.gz"] = File(zipped(page.encode()))
     return found
@@ -170,7 +173,7 @@ def tarball(made: making.Made) -> Dict[str, Any]:
     return below(found, f"seccomp-broker-{made.name}-x86_64-linux")
 
 
-def go_module(made):
+def go_module(made: Made) -> Dict[str, File]:
     """The Go module with the archive, and its packages for a broker of one's own: a `replace` line names its folder."""
     found = {name: read(f"{TOP}/examples/go/{name}") for name in ("broker.go", "go.mod", "policy_test.go", "step/step.go", "stepbroker/broker.go")}
     found["broker.go"] = text(replaced(found["broker.go"].data.decode(), OF_MODULE, "examples/go/broker.go"))

@@ -5,7 +5,7 @@ import os
 import re
 import shutil
 import subprocess
-from typing import Dict, NamedTuple, Tuple, Union
+from typing import Dict, List, NamedTuple, Optional, Tuple, Union
 
 from tools.commands.command_line import checkout, place, sources
 from tools.commands.command_line.top import TOP
@@ -23,7 +23,7 @@ class Made(NamedTuple):
     version: str
     is_proved: bool
     program: str
-    library: str  # the folder that tools/commands/make-c-library made, or None
+    library: Optional[str]  # the folder that tools/commands/make-c-library made, or None
     toolchain: str
     commit: str
     sources: str
@@ -41,7 +41,7 @@ class Made(NamedTuple):
         return self.version if self.is_proved else f"{self.version}~-unproved"
 
     @property
-    def wheel(self):
+    def wheel(self) -> str:
         """Python's form of the version (PEP 440), likewise."""
         return self.version if self.is_proved else f"{self.version}.dev0+unproved"
 
@@ -61,7 +61,7 @@ def program_of_sources() -> Tuple[str, bool]:
     return path, path == checkout.PROVED
 
 
-def library():
+def library() -> Optional[str]:
     """The folder with the C library, where its proved archive is there and no source is newer; else None."""
     if not os.path.isfile(ARCHIVE) or checkout.is_newer_source(ARCHIVE) or any(shutil.which(it) is None for it in ("rt", "cc", "ar")):
         return None
@@ -89,7 +89,7 @@ def collect() -> Made:
                 maintainer=place.said_by(*git, "log", "-1", "--format=%an <%ae>") or "unknown <unknown@invalid>", time=time_of(place.said_by(*git, "log", "-1", "--format=%ct") or ""))
 
 
-def gate_lines(made):
+def gate_lines(made: Made) -> Optional[List[str]]:
     """The gate's closing lines, where it passed on these sources."""
     try:
         with open(GATE, encoding="utf-8", errors="replace") as file:

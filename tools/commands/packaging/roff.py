@@ -72,10 +72,10 @@ def item(tag: str, lines: List[str]) -> List[str]:
     return [".TP", marked, *lines] if len(marked) <= WIDTH else [".PP", *sentences(tag), ".RS", *lines, ".RE"]
 
 
-def table(rows):
+def table(rows: List[str]) -> List[str]:
     """A table as a list: the first column is the tag. A row without one goes on with the item before it."""
+    found: List[str] = []
     head, *body = [cells(row) for row in rows if not re.fullmatch(r"[|\s:-]+", row)]
-    found = []
     for row in body:
         lines = told(head, row)
         if row[0] or not found:
@@ -115,12 +115,12 @@ def blocks(lines: List[str]) -> Iterator[Tuple[str, List[str]]]:
             yield ("item" if item else "text"), [it.strip() for it in lines[begin:at]]
 
 
-def man(lines, top):
+def man(lines: List[str], top: int) -> List[str]:
     """The lines of a document's part as man(7); headings of the level `top` are sections."""
     found = []
     for kind, block in blocks(lines):
         if kind == "heading":
-            level, text = re.match(r"(#+) (.*)", block[0]).groups()
+            level, _, text = block[0].partition(" ")
             name = plain(text)
             found.append(f".SH {escaped(name.upper())}" if len(level) <= top else f".SS {escaped(name)}")
         elif kind == "code":
@@ -128,8 +128,8 @@ def man(lines, top):
         elif kind == "table":
             found += table(block)
         elif kind == "item":
-            mark, text = re.match(r"(-|\d+\.) +(.*)", " ".join(block), re.S).groups()
-            found += [".IP " + ("\\(bu 2" if mark == "-" else f"{mark} 4"), *sentences(text)]
+            mark, _, text = " ".join(block).partition(" ")
+            found += [".IP " + ("\\(bu 2" if mark == "-" else f"{mark} 4"), *sentences(text.lstrip(" "))]
         else:
             found += [".PP", *sentences(" ".join(block))]
     # a section's first paragraph needs no mark

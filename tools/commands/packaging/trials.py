@@ -16,10 +16,11 @@ NOBODY = 65534
 
 
 class Trials:
-    def __init__(self):
-        self.passed, self.failed, self.left = 0, 0, []
+    def __init__(self) -> None:
+        self.passed, self.failed = 0, 0
+        self.left: List[str] = []
 
-    def check(self, what, holds, said=""):
+    def check(self, what: str, holds: Any, said: Any = "") -> bool:
         """Counts a check. One that fails has a line, and what was said."""
         self.passed, self.failed = self.passed + bool(holds), self.failed + (not holds)
         if not holds:
@@ -58,15 +59,16 @@ class Ended:
     """What a command came to."""
 
     def __init__(self, words: List[str], folder: Optional[str] = None, environment: Optional[Dict[str, str]] = None, user: Optional[int] = None, data: Optional[bytes] = None, seconds: int = 1800) -> None:
-        def drop_rights():
-            os.setgroups([])
-            os.setgid(user)
-            os.setuid(user)
+        def drop_rights() -> None:
+            if user is not None:
+                os.setgroups([])
+                os.setgid(user)
+                os.setuid(user)
 
         try:
             with input_of(data) as source:
                 ended = subprocess.run(words, cwd=folder, env=environment, stdin=source, stdout=subprocess.PIPE, stderr=subprocess.PIPE, timeout=seconds,
-                                       preexec_fn=drop_rights if user is not None else None)
+                                       preexec_fn=drop_rights)
             self.status, self.out, self.said = ended.returncode, ended.stdout.decode(errors="replace"), ended.stderr.decode(errors="replace")
         except subprocess.TimeoutExpired:
             self.status, self.out, self.said = -1, "", f"{words[0]} hadn't ended after {seconds} seconds"
@@ -80,6 +82,6 @@ def plain_environment(path: str, **more: str) -> Dict[str, str]:
     return {"PATH": path, "HOME": "/nonexistent", "LC_ALL": "C.UTF-8", **more}
 
 
-def python():
+def python() -> str:
     """Debian's own Python, for environments of its own, else the one that runs this."""
     return "/usr/bin/python3" if os.access("/usr/bin/python3", os.X_OK) else sys.executable

@@ -1,13 +1,19 @@
 """The Python wheel: the module with the shared library in it, and the module for a broker of one's own, which asks the program."""
+from __future__ import annotations
+
 import base64
 import hashlib
 import io
 import time as clock
 import zipfile
+from typing import TYPE_CHECKING, Any, Dict
 
 from tools.commands.packaging.files import SONAME, stripped
 from tools.commands.packaging.made import TOP, proof_text
 from tools.commands.packaging.tree import File, read, text
+
+if TYPE_CHECKING:
+    from tools.commands.packaging.made import Made
 
 # the library is of x86-64 Linux, and any Python loads it by ctypes
 TAG = "py3-none-linux_x86_64"
@@ -27,11 +33,11 @@ seccomp-broker say what policies and scripts are.
 WHEEL = "Wheel-Version: 1.0\nGenerator: seccomp-broker\nRoot-Is-Purelib: false\nTag: {tag}\n"
 
 
-def name(made):
+def name(made: Made) -> str:
     return f"seccomp_broker-{made.wheel}-{TAG}.whl"
 
 
-def files(made):
+def files(made: Made) -> Dict[str, Any]:
     info = f"seccomp_broker-{made.wheel}.dist-info"
     found = {"seccomp_broker/__init__.py": read(f"{TOP}/examples/python/seccomp_broker.py"),
              "seccomp_broker/libseccomp_broker.so": stripped(f"{made.library}/lib/{SONAME}"), "seccomp_broker/proof.txt": text(proof_text(made)),
@@ -43,7 +49,7 @@ def files(made):
     return {**found, f"{info}/RECORD": text(f"{record}{info}/RECORD,,\n")}
 
 
-def data(made):
+def data(made: Made) -> bytes:
     """The bytes of the wheel."""
     # (a zip archive has no time before 1980)
     date = clock.gmtime(max(made.time, 315_532_800))[:6]
