@@ -12,7 +12,7 @@ import subprocess
 import tempfile
 from itertools import zip_longest
 from pathlib import Path
-from typing import Any, List, Union
+from typing import Any, List
 
 from tools.checks import known
 from tools.checks.tallies import Tally
@@ -25,7 +25,7 @@ from tools.commands.pods import parts
 REPORT_LIMIT = 33_554_432
 
 
-def read(path: str, otherwise: Union[bytes, int] = b"") -> Union[bytes, int]:
+def read(path: str, otherwise: Any = b"") -> Any:
     return Path(path).read_bytes() if os.path.isfile(path) else otherwise
 
 

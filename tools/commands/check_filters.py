@@ -8,13 +8,17 @@ of the filters keeps the kernel from it. One line a file says how many got the s
 
 Exit status: 0 where all are the same; 1 where one differs, or the kernel or the program refuses; 2 for wrong words.
 """
+from __future__ import annotations
+
 import os
 import random
 import re
 import subprocess
 import sys
 import tempfile
+from argparse import Namespace
 from collections import Counter
+from typing import List, Sequence, Tuple
 
 from tools.commands.command_line.arguments import ToolParser
 from tools.commands.real_workloads import bpf, kernel_verdicts, program
@@ -24,11 +28,11 @@ OF_PROBES = (335, 336)  # the kernel asks no filter about these
 NUMBERS = range(512)
 
 
-def constants(filters):
+def constants(filters: Sequence[bpf.Filter]) -> List[int]:
     return [it.value for each in filters for it in each.instructions if bpf.NAMES[it.code] in bpf.JUMPS]
 
 
-def drawn(filters, count, chance):
+def drawn(filters: Sequence[bpf.Filter], count: int, chance: random.Random) -> List[Tuple[int, List[int]]]:
     """Calls: their numbers and arguments."""
     asked = [it for it in constants(filters) if it not in OF_PROBES]
     numbers = [it for it in sorted({*asked, *NUMBERS}) if it < 2**31 and it not in OF_PROBES]
@@ -37,7 +41,7 @@ def drawn(filters, count, chance):
     return [(chance.choice(named if chance.random() < 0.7 else numbers), [chance.choice(values) for _ in range(6)]) for _ in range(count)]
 
 
-def script(filters, calls):
+def script(filters: Sequence[bpf.Filter], calls: List[Tuple[int, List[int]]]) -> str:
     """A script whose first task starts one for each call."""
     lines = [line for it in filters for line in bpf.block(it.instructions, it.listener)]
     for at, (number, arguments) in enumerate(calls):
@@ -46,7 +50,7 @@ def script(filters, calls):
     return "\n".join([*lines, *(f"t 0.{at + 1}" for at in range(len(calls))), "end", ""])
 
 
-def played(path, text):
+def played(path: str, text: str) -> List[str]:
     """The verdicts of a play. The program's line where it refuses."""
     with tempfile.TemporaryDirectory(prefix="check-filters-") as room:
         for name, content in (("policy.json", "{}"), ("script.txt", text)):
@@ -60,7 +64,7 @@ def played(path, text):
     return ["run" if verdicts[at] in ("allow", "log") else verdicts[at] for at in sorted(verdicts)]
 
 
-def checked(name, asked):
+def checked(name: str, asked: Namespace) -> bool:
     """Whether all verdicts are the same."""
     with open(name, encoding="ascii") as file:
         filters = bpf.read_blocks(file.read())
@@ -75,7 +79,7 @@ def checked(name, asked):
     return same == len(calls) == len(here)
 
 
-def main():
+def main() -> bool:
     parser = ToolParser()
     parser.add_argument("filters", nargs="+", metavar="FILTERS")
     parser.add_argument("--calls", type=int, default=200, metavar="N", help="how many calls are drawn for each file")

@@ -48,7 +48,7 @@ def table(rows: List[Tuple[str, ...]]) -> List[str]:
     return ["  ".join(text.ljust(width) for text, width in zip(it, widths)).rstrip() for it in rows]
 
 
-def main():
+def main() -> bool:
     asked = words()
     script = answers.Script(read(asked.script, "script"))
     try:

@@ -6,7 +6,7 @@ directory aren't told.
 from __future__ import annotations
 
 import re
-from typing import Any, List, Optional
+from typing import Any, Dict, List, Optional, Tuple
 
 MOST_LINKS = 40
 NODES = {"dir", "reg", "fifo", "sock", "chr", "blk", "link"}
@@ -30,10 +30,13 @@ def tokens(text: str) -> List[str]:
 class Tree:
     """Nodes, of each its parent, its name and its kind; the values of their attributes; and the mounts, each as target and root."""
 
-    def __init__(self, script):
-        self.nodes, self.attrs, self.mounts, self.root = [(None, b"/", "dir", None)], {}, [], 0
+    def __init__(self, script: bytes) -> None:
+        self.nodes: List[Tuple[Optional[int], bytes, str, Optional[bytes]]] = [(None, b"/", "dir", None)]
+        self.attrs: Dict[Tuple[int, bytes], bytes] = {}
+        self.mounts: List[Any] = []
+        self.root = 0
         # the newest node of each directory and name
-        self.entries = {}
+        self.entries: Dict[Any, int] = {}
         for line in script.decode("latin-1").splitlines():
             words = tokens(line)
             if words[:1] == ["prog"]:
@@ -53,12 +56,12 @@ class Tree:
             at = self.entry(at, name)
         return at
 
-    def make(self, parent, name, kind, target=None):
+    def make(self, parent: Optional[int], name: bytes, kind: str, target: Optional[bytes] = None) -> int:
         self.nodes.append((parent, name, kind, target))
         self.entries[parent, name] = len(self.nodes) - 1
         return len(self.nodes) - 1
 
-    def entry(self, directory, name):
+    def entry(self, directory: int, name: bytes) -> Any:
         return self.entries.get((directory, name))
 
     def mounted_on(self, node: int) -> Optional[int]:
@@ -71,11 +74,12 @@ class Tree:
             node = root
         return node
 
-    def up(self, node):
+    def up(self, node: int) -> int:
         """What `..` leads to."""
         while node != self.root:
-            if self.nodes[node][0] is not None:
-                return self.nodes[node][0]
+            parent = self.nodes[node][0]
+            if parent is not None:
+                return parent
             covered = next((target for target, root in self.mounts if root == node), None)
             if covered is None:
                 return node
@@ -109,10 +113,11 @@ class Tree:
 
     # ---- effects
 
-    def mknod(self, path, kind):
+    def mknod(self, path: bytes, kind: str) -> None:
         place = self.walked(path, creates=True)
         if place is not None:
-            self.make(*place, kind)
+            parent, name = place
+            self.make(parent, name, kind)
 
     def mount(self, target: bytes) -> int:
         """Mounts on the directory at a path, and gives the root."""
@@ -131,8 +136,8 @@ class Tree:
 class Memory:
     """The bytes that tasks have stored: those of threads are one."""
 
-    def __init__(self):
-        self.groups = {"t0": {}}
+    def __init__(self) -> None:
+        self.groups: Dict[str, Dict[int, int]] = {"t0": {}}
 
     def spawned(self, parent: str, child: str, kind: str) -> None:
         self.groups[child] = self.groups[parent] if kind == "shared" else dict(self.groups[parent])

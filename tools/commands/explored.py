@@ -9,7 +9,7 @@ import re
 import subprocess
 import tempfile
 from pathlib import Path
-from typing import Any, List, Optional, Set, Tuple, Union
+from typing import Any, Dict, List, Optional, Set, Tuple, Union
 
 from tools.commands.container_tree import fates
 
@@ -45,7 +45,7 @@ class Broker:
         return ended.stdout.decode("latin-1")
 
 
-def has_requests(script):
+def has_requests(script: bytes) -> bool:
     """Whether a script's schedule says what the workers of another broker ask for."""
     return REQUEST.search(script) is not None
 
@@ -81,9 +81,9 @@ class Report:
         ], at + 1 + count
 
 
-def lines_of(path):
+def lines_of(path: List[str]) -> List[str]:
     """A line for each maximal run of an actor."""
-    runs = []
+    runs: List[List[Any]] = []
     for actor in path:
         if runs and runs[-1][0] == actor:
             runs[-1][1] += 1
@@ -111,10 +111,10 @@ def workers_in_hand(events: List[Tuple[str, str]]) -> Set[str]:
 class Explorer:
     """Walks all histories within a bound of delays, or all without one."""
 
-    def __init__(self, broker, workers, bound):
+    def __init__(self, broker: Broker, workers: int, bound: Optional[int]) -> None:
         self.broker, self.bound = broker, bound
         self.workers = [f"w{number}" for number in range(workers + 1)]
-        self.found = []
+        self.found: List[Any] = []
 
     def circle(self, events: List[Tuple[str, str]], last: Optional[str]) -> List[str]:
         """The actors that may step, from the one that stepped last on: of the idle workers the lowest alone."""
@@ -124,9 +124,10 @@ class Explorer:
         at = actors.index(last) if last in actors else 0
         return [actor for actor in actors[at:] + actors[:at] if actor[0] == "t" or actor in inside or actor in idle]
 
-    def able(self, path, order, most):
+    def able(self, path: List[str], order: List[str], most: int) -> Tuple[List[Tuple[str, Any]], Any]:
         """The first actors of an order, this many at most, that are able to step after a path: each with its event. And a report of the path."""
-        able, report = [], None
+        able: List[Tuple[str, Any]] = []
+        report: Any = None
         while len(able) < most:
             report = self.broker.report(lines_of(path + order))
             steps = [step for step in zip(order, report.events[len(path) + 1:]) if step[1] != (step[0], "skip")]
@@ -147,9 +148,9 @@ class Explorer:
                 break
         return gone
 
-    def walk(self):
+    def walk(self) -> None:
         """Finds each history, as its delays, its path and its report."""
-        pending = [([], [], [("-", "spawn 0 pid=1 new")])]
+        pending: List[Tuple[List[int], List[str], List[Any]]] = [([], [], [("-", "spawn 0 pid=1 new")])]
         while pending:
             delays, path, events = pending.pop()
             left = None if self.bound is None else self.bound - sum(delays)
@@ -166,10 +167,11 @@ class Explorer:
             for number, (actor, event) in enumerate(able):
                 pending.append((delays + [number], path + [actor], events + [event]))
 
-    def text(self):
+    def text(self) -> str:
         """What is printed of them."""
         self.walk()
-        outcomes, events, longest = {}, 0, 0
+        events = longest = 0
+        outcomes: Dict[Any, Any] = {}
         explored, whole = 0, "yes" if self.bound is None else "bound"
         for _, path, report in sorted(self.found, key=lambda found: (sum(found[0]), found[0])):
             if events >= MOST_EVENTS:
@@ -191,9 +193,11 @@ class Explorer:
 # ---- what comes of the calls of a history, by its report
 
 
-def sessions_of(report, script):
+def sessions_of(report: Report, script: bytes) -> Dict[int, Tuple[Any, ...]]:
     """Of each session, by the place of the call whose notification it received: its audit, and what it did, with what became of that."""
-    entered, open_sessions, sessions = {}, {}, {}
+    entered: Dict[str, int] = {}
+    open_sessions: Dict[str, Any] = {}
+    sessions: Dict[int, Any] = {}
     fate = fates(script, report.events) if any(re.match("act (mount|setxattr) ", words) for _, words in report.events) else {}
     audited = {place: words for place, words in report.audit}
     for place, (actor, words) in enumerate(report.events):
@@ -203,7 +207,7 @@ def sessions_of(report, script):
             entered[notified[1]] = place
         elif received:
             audit = re.search(r"(rule=\S+) (verdict=\S+) answer=\S+ (reply=\S+)$", audited[place])
-            sessions[entered[received[1]]] = open_sessions[actor] = (" ".join(audit.groups()), [])
+            sessions[entered[received[1]]] = open_sessions[actor] = (" ".join(audit.groups() if audit else ()), [])
         elif actor in open_sessions and words.startswith("act "):
             open_sessions[actor][1].append(f" did {words[4:]}{fate.get(place, '')}")
         elif actor in open_sessions and words.startswith("plant "):
@@ -213,9 +217,10 @@ def sessions_of(report, script):
     return sessions
 
 
-def outcome_of(report, script):
+def outcome_of(report: Report, script: bytes) -> List[str]:
     """The lines of an outcome: the tasks number by number, the calls of each in their order."""
-    sessions, counts, lines = sessions_of(report, script), {}, []
+    sessions, lines = sessions_of(report, script), []
+    counts: Dict[str, int] = {}
     for place, words in report.calls:
         actor, _, call, outcome = words.split(" ")
         verdict = re.sub(r" id=\d+$", "", report.events[place][1]).split(" ")[-1]
@@ -228,9 +233,11 @@ def outcome_of(report, script):
     return [line for _, _, block in sorted(lines, key=lambda one: one[:2]) for line in block]
 
 
-def faults_in(broker, output):
+def faults_in(broker: Broker, output: str) -> List[Any]:
     """What is wrong with the outcomes of an output of `explore`, given as a text: each schedule is played."""
-    faults, block, schedule = [], None, None
+    faults: List[str] = []
+    block: Optional[List[str]] = None
+    schedule: Optional[List[str]] = None
     for line in output.split("\n"):
         if line.startswith("outcome "):
             name, block = line, []

@@ -2,6 +2,8 @@
 from __future__ import annotations
 
 import sys
+from argparse import Namespace
+from typing import List, NoReturn, Optional
 
 from tools.commands.command_line import written
 from tools.commands.command_line.arguments import Parser
@@ -11,7 +13,7 @@ from tools.commands.real_workloads.script_text import MOST_FILTERS
 TOOL = "filter-of-process"
 
 
-def words():
+def words() -> Namespace:
     parser = Parser(TOOL)
     parser.add_argument("pid", type=int, metavar="PID")
     parser.add_argument("-o", dest="file", metavar="FILE", help="the file to write")
@@ -19,17 +21,18 @@ def words():
     return parser.parse_args()
 
 
-def failed(text):
+def failed(text: str) -> NoReturn:
     sys.exit(f"{TOOL}: {text}")
 
 
-def listener_of(filters, asked):
+def listener_of(filters: List[List[bpf.Instruction]], asked: Namespace) -> Optional[int]:
     """The place of the filter with the listener, from 0, or None."""
     if asked.listener is not None:
         if not 1 <= asked.listener <= len(filters):
             failed(f"there are {len(filters)} filters, and no number {asked.listener}")
         return asked.listener - 1
-    return max((at for at, it in enumerate(filters) if bpf.answers(it, bpf.NOTIFY)), default=None)
+    places = [at for at, it in enumerate(filters) if bpf.answers(it, bpf.NOTIFY)]
+    return max(places) if places else None
 
 
 def main() -> None:

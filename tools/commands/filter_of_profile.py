@@ -7,6 +7,7 @@ from __future__ import annotations
 import argparse
 import json
 import sys
+from typing import Any, Iterable, List, NoReturn
 
 from tools.commands.command_line import written
 from tools.commands.command_line.arguments import Parser
@@ -20,18 +21,18 @@ TOOL = "filter-of-profile"
 MOST_BYTES = 16 << 20
 
 
-def names(text):
+def names(text: str) -> List[str]:
     return [it for it in text.replace(",", " ").split() if it]
 
 
-def capabilities(text):
+def capabilities(text: str) -> Any:
     try:
         return profiles.capabilities(names(text))
     except profiles.NoCapability as fault:
         raise argparse.ArgumentTypeError(f"no capability is called {fault}") from fault
 
 
-def architectures(text):
+def architectures(text: str) -> List[str]:
     found = [profiles.with_prefix("SCMP_ARCH_", it) for it in names(text)]
     unknown = [it for it in found if it not in profiles.ARCHITECTURES]
     if unknown or profiles.NATIVE not in found:
@@ -39,7 +40,7 @@ def architectures(text):
     return found
 
 
-def words():
+def words() -> argparse.Namespace:
     parser = Parser(TOOL)
     parser.add_argument("profile", metavar="PROFILE.json")
     parser.add_argument("-o", dest="file", metavar="FILE", help="the file to write")
@@ -51,11 +52,11 @@ def words():
     return parser.parse_args()
 
 
-def failed(text):
+def failed(text: str) -> NoReturn:
     sys.exit(f"{TOOL}: {text}")
 
 
-def text_of(name):
+def text_of(name: str) -> Text:
     try:
         with open(name, "rb") as file:
             data = file.read(MOST_BYTES + 1)
@@ -66,12 +67,12 @@ def text_of(name):
     return Text(data)
 
 
-def explain(name, text, findings):
+def explain(name: str, text: Text, findings: Iterable[Any]) -> NoReturn:
     """Ends with what is wrong with the profile: each place, and what would be right there."""
     sys.exit("\n".join(line for it in findings for line in message(it, name, text)))
 
 
-def made_of(name, text, wanted):
+def made_of(name: str, text: Text, wanted: profiles.Asked) -> Any:
     """The filter that a profile comes to."""
     wrong = explained.findings(text, wanted)
     if wrong:

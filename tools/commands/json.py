@@ -5,6 +5,7 @@ import argparse
 import json
 import subprocess
 import sys
+from typing import NoReturn
 
 from tools.commands.command_line import place, table
 from tools.commands.command_line.arguments import Parser
@@ -17,7 +18,7 @@ NOT_READ = 1
 
 
 class Words(Parser):
-    def error(self, message):
+    def error(self, message: str) -> NoReturn:
         """Wrong words end with the status that they have with the program."""
         self.exit(WRONG_WORDS, f"{self.format_usage()}json: {message}\n")
 
@@ -48,7 +49,7 @@ def show(word: str, status: int, output: bytes) -> int:
     return status
 
 
-def main():
+def main() -> int:
     words = asked()
     program = words.program or place.runnable()
     if program is None:

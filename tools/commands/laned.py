@@ -9,7 +9,7 @@ Exit status: 0 where all are laned, 1 where one isn't, 2 where one can't be read
 from __future__ import annotations
 
 import sys
-from typing import Dict, Iterator, List, Tuple
+from typing import Any, Dict, Iterator, List, Optional, Tuple
 
 from tools.commands.command_line.arguments import ToolParser
 from tools.commands.messages.refusals import LIMITS
@@ -32,9 +32,10 @@ def may_step(who: bytes, sessions: Dict[bytes, bytes]) -> bool:
     return who == next((seat for seat in SEATS if seat not in sessions), None)
 
 
-def first_fault(report):
+def first_fault(report: bytes) -> Optional[bytes]:
     """The first line of a report's journal that isn't laned, or None."""
-    calls, sessions = {}, {}
+    calls: Dict[bytes, Any] = {}
+    sessions: Dict[bytes, Any] = {}
     for who, step, line in journal(report):
         if step[0] == b"call" and step[-2] == b"notify":
             calls[step[-1]] = LANES.get(step[1], b"other")
@@ -49,13 +50,13 @@ def first_fault(report):
     return None
 
 
-def bytes_of(path):
+def bytes_of(path: str) -> bytes:
     """The bytes of a report, or so many that it is none."""
     with open(path, "rb") as file:
         return file.read(LIMITS["report"] + 1)
 
 
-def main():
+def main() -> int:
     parser = ToolParser()
     parser.add_argument("reports", metavar="REPORT", nargs="+")
     asked = parser.parse_args()

@@ -18,6 +18,8 @@ import shutil
 import subprocess
 import sys
 import tempfile
+from pathlib import Path
+from typing import Optional, Union
 
 from tools.commands.command_line import arguments, checkout
 from tools.commands.command_line.top import TOP
@@ -39,14 +41,14 @@ class NotMade(Exception):
     """A command failed, or isn't there; the text says which."""
 
 
-def run(*words, text=None, folder=TOP):
+def run(*words: str, text: Optional[str] = None, folder: Union[str, Path] = TOP) -> str:
     ended = subprocess.run(words, cwd=folder, input=text, stdin=subprocess.DEVNULL if text is None else None, stdout=subprocess.PIPE, stderr=subprocess.STDOUT, text=True)
     if ended.returncode:
         raise NotMade(f"{' '.join(words[:2])} failed:\n{ended.stdout.rstrip()}")
     return ended.stdout.strip()
 
 
-def write(path, text):
+def write(path: str, text: str) -> None:
     with open(path, "w", encoding="ascii") as file:
         file.write(text)
 
@@ -58,7 +60,7 @@ def prove_archive() -> None:
         run("rt", "lib", folder=f"{TOP}/crates/broker_c")
 
 
-def make(room):
+def make(room: str) -> None:
     """Makes all files in a room, in which they have their places below dist/."""
     lib = f"{room}/lib"
     os.makedirs(f"{lib}/pkgconfig")
@@ -76,7 +78,7 @@ def make(room):
         write(f"{lib}/pkgconfig/seccomp_broker.pc", PKG_CONFIG.format(version=version.read().strip()))
 
 
-def put(room):
+def put(room: str) -> None:
     """Puts the files of a room into their places."""
     for at, _, names in os.walk(room):
         below = os.path.normpath(f"{DIST}/{os.path.relpath(at, room)}")
@@ -85,7 +87,7 @@ def put(room):
             os.replace(f"{at}/{name}", f"{below}/{name}")
 
 
-def main():
+def main() -> int:
     arguments.none()
     try:
         missing = next((it for it in ("rt", "ar", "cc") if shutil.which(it) is None), None)

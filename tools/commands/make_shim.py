@@ -16,7 +16,7 @@ FOLDER = TOP / "lib/shim"
 FLAGS = ("-std=gnu11", "-Wall", "-Wextra", "-O2", "-fPIC", "-shared", "-pthread", "-fvisibility=hidden", "-ftls-model=initial-exec")
 
 
-def usual():
+def usual() -> Path:
     """The file that is written where none is named: among what a checkout makes, or else here."""
     return TOP / "dist" / NAME if place.about() is None else Path(NAME)
 
@@ -27,7 +27,7 @@ def asked() -> Path:
     return parser.parse_args().file or usual()
 
 
-def main():
+def main() -> int:
     made = asked()
     try:
         made.parent.mkdir(parents=True, exist_ok=True)

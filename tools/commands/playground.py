@@ -6,6 +6,7 @@ import os
 import socket
 import sys
 import tempfile
+from argparse import Namespace
 from typing import Dict, List
 
 from tools.commands.command_line.arguments import Parser
@@ -20,13 +21,14 @@ HOST, LEAST_PORT, GREATEST_PORT = "127.0.0.1", 1024, 65535
 SLOW = "several hundred times slower than the proved program"
 
 
-def arguments():
+def arguments() -> Namespace:
     parser = Parser("playground")
     parser.add_argument("--port", type=int, default=8430, help="the port of 127.0.0.1 (%(default)s)")
-    parser.add_argument("--program", type=os.path.abspath, default=BROKER, help="the program that is run")
+    parser.add_argument("--program", default=BROKER, help="the program that is run")
     asked = parser.parse_args()
     if not 0 <= asked.port <= GREATEST_PORT:
         parser.error(f"--port is 0 to {GREATEST_PORT}")
+    asked.program = os.path.abspath(asked.program)
     return asked
 
 
@@ -50,7 +52,7 @@ def look_at_port(port: int) -> None:
         tried.bind((HOST, port))
 
 
-def why_not(port, fault):
+def why_not(port: int, fault: OSError) -> str:
     """Why the page can't be served, and what to do where the port is the reason."""
     if fault.errno == errno.EADDRINUSE:
         other = port + 1 if port < GREATEST_PORT else port - 1
@@ -61,7 +63,7 @@ def why_not(port, fault):
     return str(fault)
 
 
-def serve(asked, room):
+def serve(asked: Namespace, room: str) -> int:
     """Serves until it is interrupted; what is run for a page has its files in this folder. Returns the status."""
     tempfile.tempdir = room
     try:

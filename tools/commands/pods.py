@@ -2,15 +2,16 @@
 from __future__ import annotations
 
 import re
-from typing import Dict
+from typing import Dict, List, Tuple
 
 PART = re.compile(rb"container (\d+)\n")
 LEDGERS = re.compile(rb"handovers (\d+)\n")
 
 
-def parts(out):
+def parts(out: bytes) -> Tuple[List[bytes], bytes]:
     """The report of each container, with its ledgers where workers were replaced, and the last line. A ValueError says what has another form."""
-    reports, lines = [], out.splitlines(keepends=True)
+    lines = out.splitlines(keepends=True)
+    reports: List[bytes] = []
     while lines and (title := PART.fullmatch(lines[0])):
         if int(title[1]) != len(reports):
             raise ValueError(f"{title[0]!r} where container {len(reports)} is next")
@@ -36,9 +37,9 @@ def summary(report: bytes) -> bytes:
     return report.split(b"\nhandovers ", 1)[0].splitlines()[-1]
 
 
-def last_line(reports):
+def last_line(reports: List[bytes]) -> bytes:
     """The last line of a pod with these reports."""
-    sums = {}
+    sums: Dict[bytes, int] = {}
     for report in reports:
         for name, count in numbers(summary(report)).items():
             sums[name] = sums.get(name, 0) + count

@@ -7,15 +7,16 @@ toolchain it is the program of an installed package, where that is made of these
 
 Exit status: 0 with a path; 1 if a trial build can't be kept; 2 or more if none can be made. Standard error says why.
 """
+from __future__ import annotations
 
 from tools.commands.command_line import arguments, checkout, trial
 
 
-def main():
+def main() -> int:
     arguments.none()
     try:
         print(checkout.program())
     except (trial.NotKept, trial.NotMade) as fault:
-        trial.say(fault)
+        trial.say(str(fault))
         return 1 if isinstance(fault, trial.NotKept) else 2
     return 0

@@ -4,12 +4,15 @@
 
 This is what ./broker --prove does. Exit status: 0, or 1 if a crate couldn't be proved.
 """
+from __future__ import annotations
+
 import os
 import shutil
 import subprocess
 import sys
 import time
-from concurrent.futures import FIRST_COMPLETED, ThreadPoolExecutor, wait
+from concurrent.futures import FIRST_COMPLETED, Future, ThreadPoolExecutor, wait
+from typing import Any, Dict, List, Optional, Set, Tuple
 
 from tools.commands.command_line import arguments
 from tools.commands.command_line.top import TOP
@@ -17,7 +20,7 @@ from tools.commands.command_line.top import TOP
 PROGRAM = "seccomp_broker"
 
 
-def crates_below(name):
+def crates_below(name: str) -> Dict[str, List[str]]:
     """The crates that this one stands on, and itself, each with the crates of the repository that it names."""
     listed = {}
     with open(f"{TOP}/crates.txt") as lines:
@@ -34,7 +37,7 @@ def crates_below(name):
     return below
 
 
-def prove(crate):
+def prove(crate: str) -> Tuple[float, Optional[str]]:
     """Proves and builds one crate, whose lower ones stand. Gives how long it took, and what it said where it failed."""
     begun = time.monotonic()
     verb = "run" if crate == PROGRAM else "lib"
@@ -46,7 +49,7 @@ def prove(crate):
     return time.monotonic() - begun, run.stdout.decode(errors="replace") if failed else None
 
 
-def main():
+def main() -> int:
     arguments.none()
     if shutil.which("rt") is None:
         print("broker: the toolchain's command rt isn't on the PATH", file=sys.stderr)
@@ -54,7 +57,9 @@ def main():
     crates = crates_below(PROGRAM)
     workers = os.cpu_count() or 1
     print(f"broker: {len(crates)} crates to prove, up to {workers} at a time", flush=True)
-    begun, done, running = time.monotonic(), set(), {}
+    begun = time.monotonic()
+    done: Set[str] = set()
+    running: Dict[Future[Any], str] = {}
     with ThreadPoolExecutor(workers) as pool:
         while len(done) < len(crates):
             for crate, below in crates.items():

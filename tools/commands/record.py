@@ -6,6 +6,7 @@ import subprocess
 import sys
 from argparse import Namespace
 from pathlib import Path
+from typing import List
 
 from tools.commands.command_line.arguments import Parser
 
@@ -26,7 +27,7 @@ def words() -> Namespace:
     return asked
 
 
-def main():
+def main() -> int:
     asked = words()
     if shutil.which("strace") is None:
         sys.exit("record: strace isn't there; Debian's package strace has it")
@@ -35,7 +36,7 @@ def main():
     return subprocess.run([*WORDS, "-o", asked.trace, "--", *asked.command], check=False).returncode
 
 
-def with_descendants(pid):
+def with_descendants(pid: int) -> List[int]:
     """A process and all that it has started, which still run."""
     found = [pid]
     for each in found:
@@ -44,7 +45,7 @@ def with_descendants(pid):
     return found
 
 
-def trace_running(asked):
+def trace_running(asked: Namespace) -> int:
     """Traces until the processes end or the user interrupts, which is a good end."""
     if not Path(f"/proc/{asked.attach}").exists():
         sys.exit(f"record: there is no process {asked.attach}")

@@ -7,7 +7,7 @@ from __future__ import annotations
 import argparse
 import sys
 from argparse import Namespace
-from typing import TYPE_CHECKING, List
+from typing import TYPE_CHECKING, List, Optional, Tuple
 
 from tools.commands.command_line import written
 from tools.commands.command_line.arguments import Parser
@@ -29,7 +29,7 @@ def names_of_calls(text: str) -> List[str]:
     return names
 
 
-def range_of_lines(text):
+def range_of_lines(text: str) -> Tuple[int, int]:
     first, _, last = text.partition("-")
     try:
         return int(first or 1), int(last or 2**63)
@@ -37,7 +37,7 @@ def range_of_lines(text):
         raise argparse.ArgumentTypeError(f"{text!r} isn't FROM-TO") from fault
 
 
-def at_least_one(text):
+def at_least_one(text: str) -> int:
     if not text.isdigit() or int(text) == 0:
         raise argparse.ArgumentTypeError(f"{text!r} isn't a number from 1 on")
     return int(text)
@@ -60,7 +60,7 @@ def failed(text: str) -> None:
     sys.exit(f"script-of-strace: {text}")
 
 
-def filters_of(asked):
+def filters_of(asked: Namespace) -> Tuple[List[bpf.Filter], List[str]]:
     """The filters, and the lines that state them."""
     if asked.filters is None:
         return [bpf.Filter(bpf.notify_filter([CALLS[it] for it in asked.notify]), True)], [f"notify {' '.join(asked.notify)}"]
@@ -110,7 +110,7 @@ def main() -> None:
     print("\n".join(f"script-of-strace: {it}" for it in findings.findings(made)), file=sys.stderr)
 
 
-def write(name, text):
+def write(name: Optional[str], text: str) -> None:
     if name is None:
         print(text, end="", flush=True)
         return

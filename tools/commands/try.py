@@ -4,10 +4,13 @@
 takes one to two minutes. It gives no report of more than 1 MiB, and none that takes more than a minute; a kept build and the proved program
 have no such limits.
 """
+from __future__ import annotations
+
 import os
 import re
 import subprocess
 import sys
+from typing import List
 
 from tools.commands.command_line import arguments
 from tools.commands.command_line.top import TOP
@@ -21,13 +24,13 @@ FILES = {"check": 2, "compare": 2, "explore": 2, "explain": 2, "handover": 2, "j
 OF_THE_RUN = re.compile(r"(checked|interpreter|races|run=|call=|rt:)")
 
 
-def words_of(words):
+def words_of(words: List[str]) -> List[str]:
     """The words, with the files that they name by their whole paths, since the trial build runs in a folder of its own."""
     first, files = (3, len(words)) if words[:1] == ["pod"] else (1, FILES.get(words[0], 0) if words else 0)
     return words[:first] + [os.path.abspath(word) for word in words[first:first + files]] + words[first + files:]
 
 
-def main():
+def main() -> int:
     if not sys.argv[1:] or sys.argv[1].startswith("-"):
         # (all other words are the program's own)
         arguments.none()

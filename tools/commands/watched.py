@@ -14,7 +14,7 @@ import sys
 import tempfile
 import time
 from pathlib import Path
-from typing import Any, Callable, Dict
+from typing import Any, Callable, Dict, List
 
 from tools.commands.command_line import ending
 
@@ -44,9 +44,10 @@ def parents() -> Dict[int, int]:
     return found
 
 
-def descendants():
+def descendants() -> List[int]:
     """The processes below this one."""
-    by_parent, found, left = {}, [], [os.getpid()]
+    by_parent: Dict[int, List[int]] = {}
+    found, left = [], [os.getpid()]
     for pid, parent in parents().items():
         by_parent.setdefault(parent, []).append(pid)
     while left:
@@ -80,7 +81,7 @@ def end_as(status: int) -> None:
     os._exit(os.WEXITSTATUS(status))
 
 
-def run(main, room):
+def run(main: Callable[..., Any], room: str) -> None:
     """What the program does, in its own process: its status."""
     signal.signal(signal.SIGINT, signal.default_int_handler)
     set_own(PR_SET_PDEATHSIG, signal.SIGKILL)
@@ -144,7 +145,7 @@ def wait_for(watcher: int) -> int:
             interrupt_child_of(watcher)
 
 
-def interrupt_child_of(watcher):
+def interrupt_child_of(watcher: int) -> None:
     """Interrupts the program, which is the watcher's only child as long as it runs."""
     for pid, parent in parents().items():
         if parent == watcher:

@@ -16,7 +16,7 @@ import re
 import sys
 from collections import namedtuple
 from functools import lru_cache
-from typing import Any, Dict, List, Optional, Set, Tuple
+from typing import Any, Dict, List, Optional, Set, Tuple, Union
 
 from tools.commands.command_line.arguments import ToolParser
 from tools.commands.command_line.top import TOP
@@ -99,7 +99,7 @@ def text_of(path: str) -> str:
         return file.read()
 
 
-def with_comments(lines: List[str], at: int, marks: str) -> int:
+def with_comments(lines: List[str], at: int, marks: Union[str, Tuple[str, ...]]) -> int:
     """Where what begins at this line begins with the comments right above it."""
     while at and lines[at - 1].lstrip().startswith(marks) and not lines[at - 1].startswith("-- ----"):
         at -= 1
@@ -119,7 +119,8 @@ def ask_for_all_lines(path: str, lines: List[str], heads: List[Tuple[int, str]],
 
 def spec_items(path: str) -> Dict[str, Item]:
     """The definitions of a file of specs/, by name; a constructor has that of its type, and what is defined together is one."""
-    lines, found = text_of(path).splitlines(), {}
+    lines = text_of(path).splitlines()
+    found: Dict[str, Any] = {}
     heads = [(at, match[1]) for at, match in enumerate(map(HEAD.match, lines)) if match]
     starts = [with_comments(lines, at, "--") for at, _ in heads] + [len(lines)]
     for (at, name), start, end in zip(heads, starts, starts[1:]):
@@ -132,9 +133,10 @@ def spec_items(path: str) -> Dict[str, Item]:
     return found
 
 
-def rust_items(path):
+def rust_items(path: str) -> Dict[str, Item]:
     """The types of a file of src/, by name, each with the view that contracts have of it."""
-    lines, found = text_of(path).splitlines(), {}
+    lines = text_of(path).splitlines()
+    found: Dict[str, Item] = {}
     for at, line in enumerate(lines):
         match = TYPE.match(line) or MODEL.match(line)
         if match:
@@ -174,7 +176,7 @@ def imports(path: str) -> Dict[str, Tuple[str, str]]:
     return found
 
 
-def located(module, name):
+def located(module: str, name: str) -> Optional[Tuple[str, Optional[str]]]:
     """Where a module has a name: a file and the name there; no name where it is a module of the toolchain's library, and nothing where
     src/ imports what is no type of the repository."""
     if module.endswith(".rt"):
@@ -202,7 +204,7 @@ def spoken_of(item: Item) -> List[Tuple[str, Optional[str]]]:
     bare = NO_CODE.sub("", "\n".join(item.lines))
     known, brought, names = items(item.path), imports(item.path), set(NAME.findall(bare))
     behind = [(module, name) for module, last, alias in WHOLE_IMPORT.findall(text_of(item.path)) for name in re.findall(rf"(?<![\w.]){alias or last}\.(\w+)", bare)]
-    found = [(item.path, name) for name in names & known.keys()]
+    found: List[Optional[Tuple[str, Optional[str]]]] = [(item.path, name) for name in names & known.keys()]
     found += [located(*brought[name]) for name in names & brought.keys() - known.keys()]
     found += [located(module, name) for module, name in behind]
     return [at for at in found if at]
@@ -262,7 +264,7 @@ def sentence_row(number: str) -> str:
     return f"| {number} | {SENTENCES[number].short} | {said_by(SENTENCES[number])} | {len(files(definitions))} | {count(definitions)} | {beside} |\n"
 
 
-def file_line(definitions, path):
+def file_line(definitions: Dict[Tuple[str, int], Item], path: str) -> str:
     """How many lines of a file are counted, and of a file of definitions how many it has."""
     whole = f" of {len(text_of(path).splitlines())}" if path.endswith(".antt") else ""
     return f"{count(definitions, path):>5}{whole} lines of crates/{path}"
@@ -302,7 +304,7 @@ def ask_for_all_sections() -> None:
         sys.exit(f"what-must-be-believed: SENTENCES has to name the sections of Mediated, each of them: {' '.join(sorted(wrong))}")
 
 
-def to_read(number):
+def to_read(number: str) -> None:
     definitions = rests_on(number)[0]
     paths = files(definitions)
     print("\n".join(file_line(definitions, path) for path in paths) + "\n")
@@ -312,7 +314,7 @@ def to_read(number):
             print(f"{item.first}:\n" + "\n".join(item.lines) + "\n")
 
 
-def main():
+def main() -> None:
     parser = ToolParser()
     parser.add_argument("--check", action="store_true", help="changes nothing, and says if it would")
     parser.add_argument("sentence", metavar="SENTENCE", nargs="?", choices=SENTENCES)
