@@ -23,7 +23,7 @@ from collections import Counter
 from concurrent.futures import ProcessPoolExecutor
 from itertools import zip_longest
 from pathlib import Path
-from typing import TYPE_CHECKING, Any, Dict, List, Tuple
+from typing import Any, Dict, List, Tuple
 
 from tools.checks.tallies import Tally, TrialParser
 from tools.references.deciding import claims as claimed
@@ -35,10 +35,7 @@ from tools.references.deciding.order import rank
 from tools.references.deciding.played import script_of
 from tools.references.stepping.explaining import Refused as NoCall, calls_of
 from tools.references.stepping.policies import Refused, read_policy
-from tools.references.stepping.rules import Mknod, decide, fits
-
-if TYPE_CHECKING:
-    from tools.references.stepping.rules import Rule
+from tools.references.stepping.rules import Mknod, Rule, decide, fits
 
 EQUAL, DIFFERENT = 0, 11
 # at most this many lines behind the first one

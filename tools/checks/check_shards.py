@@ -31,7 +31,7 @@ from tools.commands.exploring import telling
 from tools.commands.exploring.command import status_of
 from tools.commands.exploring.exploration import Explored, explore
 from tools.commands.exploring.instances import InlineInstance
-from tools.commands.exploring.runs import Setting
+from tools.commands.exploring.runs import Played, Setting
 from tools.commands.sharding import command as merging, explorations
 from tools.commands.sharding.shares import WHOLE, Share
 from tools.commands.testing import junit, output
@@ -41,7 +41,6 @@ from tools.commands.testing.running import Runner
 from seccomp_step import Kernel
 
 if TYPE_CHECKING:
-    from tools.commands.exploring.runs import Played
     from tools.commands.testing.results import FileResults
 
 COUNTS = (1, 2, 3, 7)

@@ -25,23 +25,19 @@ import subprocess
 import sys
 import tempfile
 from pathlib import Path
-from typing import TYPE_CHECKING, Any, List, Optional, Tuple
+from typing import Any, List, Optional, Tuple
 
 from tools.checks.tallies import Tally
 from tools.commands.command_line import arguments
 from tools.commands.command_line.arguments import ToolParser
 from tools.commands.command_line.top import TOP
-from tools.references.stepping.asking import answers_of, at_once, folders, in_pieces, one_by_one, play_ended
-from tools.references.stepping.drawn import drawn, script_and_report
+from tools.references.stepping.asking import Files, answers_of, at_once, folders, in_pieces, one_by_one, play_ended
+from tools.references.stepping.drawn import Drawn, drawn, script_and_report
 from tools.references.stepping.drawn_schedules import scheduled
 from tools.references.stepping.fuzzing import changed_script, trials
 from tools.references.stepping.plays import ended_slowly
 from tools.references.stepping.replay import NotReplayed, replayed
 from tools.references.stepping.shared import shared_again, with_two_workers
-
-if TYPE_CHECKING:
-    from tools.references.stepping.asking import Files
-    from tools.references.stepping.drawn import Drawn
 
 WARNINGS = ["-std=c11", "-Wall", "-Wextra", "-Wpedantic", "-Werror", "-g"]
 SANITIZED = ["-fsanitize=address,undefined", "-fno-sanitize-recover"]

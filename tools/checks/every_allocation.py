@@ -25,15 +25,12 @@ from argparse import Namespace
 from collections import Counter
 from concurrent.futures import ThreadPoolExecutor
 from pathlib import Path
-from typing import TYPE_CHECKING, Any, List, Optional, Tuple, Union
+from typing import Any, List, Optional, Tuple, Union
 
 from tools.checks import fuzz
 from tools.checks.preloaded import built
-from tools.checks.tallies import TrialParser, answer_of, statuses_told
+from tools.checks.tallies import Answer, TrialParser, answer_of, statuses_told
 from tools.commands.command_line.top import TOP
-
-if TYPE_CHECKING:
-    from tools.checks.tallies import Answer
 
 DONE, NO_MEMORY = (0, b""), (7, b"no memory\n")
 FILE_FAULTS = [*((2, b"read fault: %s\n" % name) for name in (b"policy", b"script", b"calls", b"claims", b"requests")), (6, b"write fault\n")]

@@ -2,15 +2,11 @@
 from __future__ import annotations
 
 import re
-from typing import TYPE_CHECKING, Any, Iterator, List
+from typing import Any, Iterator, List
 
-from tools.commands.messages.findings import listed
+from tools.commands.messages.findings import Finding, Text, listed
 from tools.commands.messages.operands import form_of, is_like_octal
-from tools.commands.messages.script_lines import number_of, program_of, script_of, starts
-
-if TYPE_CHECKING:
-    from tools.commands.messages.findings import Finding, Text
-    from tools.commands.messages.script_lines import Block, Line
+from tools.commands.messages.script_lines import Block, Line, number_of, program_of, script_of, starts
 
 # how many tasks are looked at that never step
 MOST_TASKS = 4_000

@@ -9,10 +9,9 @@ from tools.commands.messages import requests
 from tools.commands.messages import script_words as words
 from tools.commands.messages.findings import advice, joined, listed, meant
 from tools.commands.messages.policy_words import ERRORS
-from tools.commands.messages.script_lines import NUMBER, Token, is_task, number_of
+from tools.commands.messages.script_lines import NUMBER, Line, Script, Token, is_task, number_of
 
 if TYPE_CHECKING:
-    from tools.commands.messages.script_lines import Line, Script
     from tools.commands.messages.script_words import Form, Operand
 
 WRONG_FORM, BAD_NUMBER, OUT_OF_RANGE, BAD_PATH, UNKNOWN_NAME = "wrong form", "bad number", "out of range", "bad path", "unknown name"

@@ -7,19 +7,15 @@ from __future__ import annotations
 import errno
 import json
 import re
-from typing import TYPE_CHECKING, Any, List, Optional, Tuple
+from typing import Any, List, Optional, Tuple
 
 from tools.commands.command_line import table
-from tools.commands.messages.findings import advice, listed, meant, near
-from tools.commands.messages.json_places import NotJson, Scanner, Subject, yaml_line
+from tools.commands.messages.findings import Finding, Text, advice, listed, meant, near
+from tools.commands.messages.json_places import NotJson, Scanner, Subject, Value, yaml_line
 from tools.commands.messages.policies import said, whole
 from tools.commands.messages.script_words import begins_as_script
 from tools.commands.real_workloads.profiles import ACTIONS, COMPARISONS, WITH_NUMBER, is_meant
 from tools.commands.real_workloads.script_text import CALLS
-
-if TYPE_CHECKING:
-    from tools.commands.messages.findings import Finding, Text
-    from tools.commands.messages.json_places import Value
 
 PROFILE = Subject("profile", '`{"defaultAction": "SCMP_ACT_ALLOW"}`, which allows every call', "the `comment` of an entry can say what it is for", "five", 2**64 - 1)
 TRAP = "SCMP_ACT_TRAP"

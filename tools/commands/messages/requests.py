@@ -3,14 +3,11 @@ from __future__ import annotations
 
 import re
 from dataclasses import dataclass
-from typing import TYPE_CHECKING, Any, Optional, Tuple
+from typing import Any, Optional, Tuple
 
 from tools.commands.messages.findings import advice, listed, meant
-from tools.commands.messages.script_lines import number_of
+from tools.commands.messages.script_lines import Line, Token, number_of
 from tools.commands.messages.script_words import SCHEDULE, Form, Operand
-
-if TYPE_CHECKING:
-    from tools.commands.messages.script_lines import Line, Token
 
 WORKER = Operand("N", most=15)
 WORD, HALF = 2**32 - 1, 2**16 - 1

@@ -2,15 +2,12 @@
 from __future__ import annotations
 
 import re
-from typing import TYPE_CHECKING, Any, Callable, List, Optional, Tuple
+from typing import Any, Callable, List, Optional, Tuple
 
 from tools.commands.messages import filters, limits, operands, requests
 from tools.commands.messages import script_words as words
 from tools.commands.messages.findings import Text, advice, listed, meant, whole_file
-from tools.commands.messages.script_lines import FILTER, PROGRAM, SCHEDULE, SETTINGS, Line, LineFault, number_of, script_of, tokens_of
-
-if TYPE_CHECKING:
-    from tools.commands.messages.script_lines import Script, Token
+from tools.commands.messages.script_lines import FILTER, PROGRAM, SCHEDULE, SETTINGS, Line, LineFault, Script, Token, number_of, script_of, tokens_of
 
 FIRST_MAP = ((0x10000, 16),)
 # what is said where the place in the line can't be told, by the reason that the program names (docs/reference/SCRIPT.md, Refusals of a script)

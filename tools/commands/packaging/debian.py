@@ -8,14 +8,11 @@ import shutil
 import subprocess
 import tempfile
 import time as clock
-from typing import TYPE_CHECKING, Any, Dict, List
+from typing import Any, Dict, List
 
 from tools.commands.packaging import files
-from tools.commands.packaging.made import NotMade
+from tools.commands.packaging.made import Made, NotMade
 from tools.commands.packaging.tree import File, Link, below, text, write, zipped
-
-if TYPE_CHECKING:
-    from tools.commands.packaging.made import Made
 
 LIBDIR = "lib/x86_64-linux-gnu"
 COPYRIGHT = """seccomp_broker, a simulator of a broker for seccomp user notifications

@@ -6,15 +6,12 @@ import os
 import re
 import subprocess
 import tempfile
-from typing import TYPE_CHECKING, Any, Dict, List, Set, Tuple
+from typing import Any, Dict, List, Set, Tuple
 
 from tools.commands.command_line import table
 from tools.commands.packaging import completions, manual, made as making
-from tools.commands.packaging.made import TOP, NotMade
+from tools.commands.packaging.made import TOP, Made, NotMade
 from tools.commands.packaging.tree import File, Link, below, folders_of, read, text, zipped
-
-if TYPE_CHECKING:
-    from tools.commands.packaging.made import Made
 
 HOME, SHARE = "lib/seccomp-broker", "share/seccomp-broker"
 SONAME = "libseccomp_broker.so.1"

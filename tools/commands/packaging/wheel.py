@@ -6,14 +6,11 @@ import hashlib
 import io
 import time as clock
 import zipfile
-from typing import TYPE_CHECKING, Any, Dict
+from typing import Any, Dict
 
 from tools.commands.packaging.files import SONAME, stripped
-from tools.commands.packaging.made import TOP, proof_text
+from tools.commands.packaging.made import TOP, Made, proof_text
 from tools.commands.packaging.tree import File, read, text
-
-if TYPE_CHECKING:
-    from tools.commands.packaging.made import Made
 
 # the library is of x86-64 Linux, and any Python loads it by ctypes
 TAG = "py3-none-linux_x86_64"

@@ -1,7 +1,7 @@
 """How the policy that stands in the page differs from another one, and what is likely a mistake in a policy or a script: what the program says of them, for a page."""
 from __future__ import annotations
 
-from typing import TYPE_CHECKING, Any, Dict
+from typing import Any, Dict
 
 from tools.commands.json_documents.documents import WHOLE
 from tools.commands.json_documents.policies import ANSWER, CALL, comparison_of, findings_of
@@ -9,10 +9,7 @@ from tools.commands.messages import likely, policies, scripts
 from tools.commands.messages.findings import Text
 from tools.commands.messages.refusals import SCRIPT
 from tools.commands.pages.reports import NotAReport
-from tools.commands.pages.runs import told_of
-
-if TYPE_CHECKING:
-    from tools.commands.pages.runs import Program
+from tools.commands.pages.runs import Program, told_of
 
 COMPARE, LINT, LINT_SCRIPT = "compare", "lint", "lint-script"
 OF_POLICIES = (COMPARE, LINT)

@@ -1,20 +1,16 @@
 """Which rule decides a call of a report, and what the call misses of each rule before it: the program explains the call by the policy that stands in the page."""
 from __future__ import annotations
 
-from typing import TYPE_CHECKING, Any, Dict, List
+from typing import Any, Dict, List
 
 from tools.commands.json_documents.explanations import MISSES, VERDICTS, explanation_of, written
 from tools.commands.real_workloads.script_text import CALLS, PIECE
-from tools.commands.pages.reports import event_of, lines_of, NotAReport
-from tools.commands.pages.runs import LIMITS, told_of
+from tools.commands.pages.reports import Event, NotAReport, event_of, lines_of
+from tools.commands.pages.runs import LIMITS, Program, told_of
 from tools.references.stepping.explaining import asked_text
 from tools.references.stepping.facts import Fail
 from tools.references.stepping.rules import EFAULT, Copy, Mknod, request_of
 from tools.commands.pages.words import is_error
-
-if TYPE_CHECKING:
-    from tools.commands.pages.reports import Event
-    from tools.commands.pages.runs import Program
 
 EXPLAIN = "explain"
 CALLS_REFUSED = 5

@@ -2,12 +2,9 @@
 from __future__ import annotations
 
 import re
-from typing import TYPE_CHECKING, Any, Dict, Optional, Tuple
+from typing import Any, Dict, Optional, Tuple
 
-from tools.commands.pages.reports import NotAReport, lines_of
-
-if TYPE_CHECKING:
-    from tools.commands.pages.reports import Report
+from tools.commands.pages.reports import NotAReport, Report, lines_of
 
 HEAD = re.compile(r"broken (\d{1,9}) (harm|answer|order) ([a-z-]{1,40})")
 REASON = re.compile(r"  (\d{1,9}) (.*)")

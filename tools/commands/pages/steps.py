@@ -4,17 +4,13 @@
 """
 from __future__ import annotations
 
-from typing import TYPE_CHECKING, Any, Callable, Dict, Iterator, List, Tuple
+from typing import Any, Callable, Dict, Iterator, List, Tuple
 
 from tools.commands.container_tree import tokens
-from tools.commands.pages.reports import read
-from tools.commands.pages.runs import told_of
+from tools.commands.pages.reports import Event, Report, read
+from tools.commands.pages.runs import Ended, Program, told_of
 from tools.commands.pages.scenes import OUTCOMES
 from tools.references.stepping.replay import request_of
-
-if TYPE_CHECKING:
-    from tools.commands.pages.reports import Event, Report
-    from tools.commands.pages.runs import Ended, Program
 
 STEP = "step"
 ABLE, RECEIVE, SKIP = "able", "recv", "skip"

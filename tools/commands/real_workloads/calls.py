@@ -2,13 +2,10 @@
 from __future__ import annotations
 
 from dataclasses import dataclass, field
-from typing import TYPE_CHECKING, Optional
+from typing import Optional
 
 from tools.commands.real_workloads.script_text import END_OF_ADDRESSES, NAME_LIMIT, PATH_LIMIT, PIECE, VALUE_LIMIT
-from tools.commands.real_workloads.strace_text import Text, Unreadable, descriptor, number, text_or_address
-
-if TYPE_CHECKING:
-    from tools.commands.real_workloads.strace_text import Call
+from tools.commands.real_workloads.strace_text import Call, Text, Unreadable, descriptor, number, text_or_address
 
 # what each argument is, in the order of the call
 PARTS = {

@@ -5,17 +5,14 @@ the report, or in an earlier call whose answer differed. A pair that none of the
 """
 from __future__ import annotations
 
-from typing import TYPE_CHECKING, Any, Optional, Tuple
+from typing import Any, Optional, Tuple
 
 from tools.commands.linux_stage.attributes import MOST_OF_A_VALUE as MOST_OF_LINUX
 from tools.commands.linux_stage.attributes import NO_NAMESPACE, WITHOUT_RIGHTS, is_refused_for_its_name, is_refused_for_its_value
-from tools.commands.real_workloads.answers import OF_PATH, base_of, is_same, number_of, text_at, text_of
+from tools.commands.real_workloads.answers import OF_PATH, Made, base_of, is_same, number_of, text_at, text_of
 from tools.commands.real_workloads.calls import BIND, CREATE, MOVE, PROPAGATION, REMOUNT
 from tools.commands.real_workloads.finds import BEHIND_A_DIRECTORY, BEHIND_A_FILE, BELOW_MISSING, BELOW_THERE, MISSING, THERE
 from tools.commands.real_workloads.tree import place
-
-if TYPE_CHECKING:
-    from tools.commands.real_workloads.answers import Made
 
 WALK = ("ENOENT", "ENOTDIR", "ELOOP", "ENAMETOOLONG")
 NO_PERMISSION = ("EACCES", "EPERM")

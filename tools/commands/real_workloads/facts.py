@@ -3,14 +3,12 @@ from __future__ import annotations
 
 from typing import TYPE_CHECKING, Any, Dict, List, Optional, Tuple
 
-from tools.commands.real_workloads.strace_text import IN_STRACES_NAMES, Text, Unreadable, descriptor, field, number, text_or_address
+from tools.commands.real_workloads.strace_text import IN_STRACES_NAMES, Call, Text, Unreadable, descriptor, field, number, text_or_address
 from tools.commands.real_workloads.calls import BIND, CREATE, DIRECTORY, MOVE, PROPAGATION, REMOUNT, signed
-from tools.commands.real_workloads.tree import MADE, MISSING, THERE, kind_of, place
+from tools.commands.real_workloads.tree import MADE, MISSING, THERE, Tree, kind_of, place
 
 if TYPE_CHECKING:
-    from tools.commands.real_workloads.strace_text import Call
     from tools.commands.real_workloads.tasks import Descriptors
-    from tools.commands.real_workloads.tree import Tree
 
 # where their paths stand: alone, or behind a directory's descriptor
 FINDERS: Dict[str, Tuple[Optional[int], int]] = {

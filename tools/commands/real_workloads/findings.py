@@ -2,16 +2,13 @@
 from __future__ import annotations
 
 from collections import Counter
-from typing import TYPE_CHECKING, Any, List
+from typing import Any, List
 
 from tools.commands.real_workloads.processes import MAKERS
 from tools.commands.real_workloads.script_lines import plain
 from tools.commands.real_workloads.script_text import CALLS, FIRST_ADDRESS, FIRST_PAGES, MOST_PAGES
 from tools.commands.real_workloads.tasks import PAGES_OF_A_TASK
-from tools.commands.real_workloads.workload import KILLS, NO_FORM, WAITS, WANTED
-
-if TYPE_CHECKING:
-    from tools.commands.real_workloads.workload import Workload
+from tools.commands.real_workloads.workload import KILLS, NO_FORM, WAITS, WANTED, Workload
 
 
 def counted(counter: Any) -> str:

@@ -4,14 +4,12 @@ from __future__ import annotations
 from typing import TYPE_CHECKING, Any, Optional, Tuple
 
 from tools.commands.linux_stage.attributes import MOST_OF_A_VALUE
-from tools.commands.real_workloads.calls import CLOSE_ON_EXEC, CREATE, DIRECTORY
-from tools.commands.real_workloads.tree import MADE, MISSING, THERE, place
+from tools.commands.real_workloads.calls import CLOSE_ON_EXEC, CREATE, DIRECTORY, Made
+from tools.commands.real_workloads.tree import MADE, MISSING, THERE, Tree, place
 
 if TYPE_CHECKING:
-    from tools.commands.real_workloads.calls import Made
     from tools.commands.real_workloads.strace_text import Answer
     from tools.commands.real_workloads.tasks import Descriptors
-    from tools.commands.real_workloads.tree import Tree
 
 IS_DIRECTORY, IS_FILE = ("dir",), ("reg",)
 REPLACE = 2

@@ -6,12 +6,9 @@ Where that is a number of another namespace and strace didn't translate it, the 
 from __future__ import annotations
 
 from dataclasses import dataclass, field
-from typing import TYPE_CHECKING, Any, List, Set
+from typing import Any, List, Set
 
-from tools.commands.real_workloads.strace_text import number, text_or_address, Text, Unreadable, field as field_of
-
-if TYPE_CHECKING:
-    from tools.commands.real_workloads.strace_text import Call
+from tools.commands.real_workloads.strace_text import Call, Text, Unreadable, field as field_of, number, text_or_address
 
 MAKERS = {"clone", "clone3", "fork", "vfork"}
 SHARES_MEMORY, SHARES_FILES = 0x100, 0x400

@@ -1,13 +1,10 @@
 """Lines of a script that a traced call comes to."""
 from __future__ import annotations
 
-from typing import TYPE_CHECKING, List
+from typing import List
 
 from tools.commands.real_workloads.script_text import PAGE, quoted
-from tools.commands.real_workloads.strace_text import Text, Unreadable, descriptor, field, text_or_address
-
-if TYPE_CHECKING:
-    from tools.commands.real_workloads.strace_text import Call
+from tools.commands.real_workloads.strace_text import Call, Text, Unreadable, descriptor, field, text_or_address
 
 LONGEST_SHOWN = 300
 FIGURES = ("totalram", "freeram", "sharedram", "bufferram", "totalswap", "freeswap")

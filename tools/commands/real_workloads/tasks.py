@@ -4,12 +4,11 @@ from __future__ import annotations
 from dataclasses import dataclass, field
 from typing import TYPE_CHECKING, Any, Optional, Tuple
 
-from tools.commands.real_workloads.calls import CURRENT_DIRECTORY
+from tools.commands.real_workloads.calls import CURRENT_DIRECTORY, Made
 from tools.commands.real_workloads.script_text import FIRST_ADDRESS, PAGE
 from tools.commands.real_workloads.tree import place
 
 if TYPE_CHECKING:
-    from tools.commands.real_workloads.calls import Made
     from tools.commands.real_workloads.processes import Process
     from tools.commands.real_workloads.strace_text import Call
 

@@ -3,23 +3,17 @@ from __future__ import annotations
 
 from collections import Counter
 from dataclasses import dataclass, field
-from typing import TYPE_CHECKING, Any, Dict, Optional, Tuple
+from typing import Any, Dict, Optional, Tuple
 
 from tools.commands.real_workloads import bpf, calls, facts, needs
-from tools.commands.real_workloads.calls import CURRENT_DIRECTORY, HAS_BASE, PARTS
-from tools.commands.real_workloads.processes import MAKERS, Processes, descendants
+from tools.commands.real_workloads.calls import CURRENT_DIRECTORY, HAS_BASE, PARTS, Made
+from tools.commands.real_workloads.processes import MAKERS, Process, Processes, descendants
 from tools.commands.real_workloads.schedule import Schedule
 from tools.commands.real_workloads.script_lines import as_written, figures, shown, stores
 from tools.commands.real_workloads.script_text import CALLS, MOST_BYTES, MOST_CALLS, MOST_DEPTH, MOST_INSTRUCTIONS, MOST_STEPS, MOST_TASKS, PAGE, SIGNALS
-from tools.commands.real_workloads.strace_text import SIXTY_FOUR, Text, Unreadable, field as field_of, number
-from tools.commands.real_workloads.tasks import MOVES, PAGES_OF_A_TASK, first_task
+from tools.commands.real_workloads.strace_text import SIXTY_FOUR, Call, Text, Unreadable, field as field_of, number
+from tools.commands.real_workloads.tasks import MOVES, PAGES_OF_A_TASK, Task, first_task
 from tools.commands.real_workloads.tree import Tree, text_of
-
-if TYPE_CHECKING:
-    from tools.commands.real_workloads.calls import Made
-    from tools.commands.real_workloads.processes import Process
-    from tools.commands.real_workloads.strace_text import Call
-    from tools.commands.real_workloads.tasks import Task
 
 WAITS = {"wait4": 0, "waitid": 1, "waitpid": 0}
 KILLS = {"kill": (0, 1), "tkill": (0, 1), "tgkill": (1, 2)}

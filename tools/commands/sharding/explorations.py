@@ -2,18 +2,15 @@
 from __future__ import annotations
 
 from dataclasses import dataclass, field
-from typing import TYPE_CHECKING, Any, Dict, List, Optional, Tuple, Union
+from typing import Any, Dict, List, Optional, Tuple, Union
 
 from tools.commands.exploring import telling
-from tools.commands.exploring.exploration import Explored
+from tools.commands.exploring.exploration import Explored, Found
 from tools.commands.exploring.kernels import Asked
 from tools.commands.exploring.runs import Kind, Played, Told, Trouble
 from tools.commands.exploring.schedules import Delay, Planned
 from tools.commands.sharding.shares import Described, Share, Unlike
 from tools.references.judging.passing import NAME, Note
-
-if TYPE_CHECKING:
-    from tools.commands.exploring.exploration import Found
 
 WORD = "explore-broker"
 # how an exploration came to its end

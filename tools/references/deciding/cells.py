@@ -6,13 +6,10 @@ for each combination of the others.
 from __future__ import annotations
 
 import itertools
-from typing import TYPE_CHECKING, Any, Callable, Dict, Iterable, Iterator, List, NamedTuple, Optional, Tuple
+from typing import Any, Callable, Dict, Iterable, Iterator, List, NamedTuple, Optional, Tuple
 
 from tools.commands.real_workloads.script_text import CALLS
-from tools.references.stepping.rules import BITS, OTHER_CALLS, Mknod, Mount, OpenAt, Other, Request, SetXattr, Sysinfo, meets
-
-if TYPE_CHECKING:
-    from tools.references.stepping.rules import Rule
+from tools.references.stepping.rules import BITS, OTHER_CALLS, Mknod, Mount, OpenAt, Other, Request, Rule, SetXattr, Sysinfo, meets
 
 LONGEST_PATH, LONGEST_NAME, LONGEST_VALUE = 4095, 255, 4096
 # of more flags than these, sets of one or two and their complements are tried alone

@@ -5,11 +5,10 @@ import random
 from collections import namedtuple
 from typing import TYPE_CHECKING, Any, Optional, Tuple, Union
 
-from tools.references.stepping.facts import AT_FDCWD, CALL_NAMES, SEND, SETFD, Fail, quoted
+from tools.references.stepping.facts import AT_FDCWD, CALL_NAMES, SEND, SETFD, Fail, Notif, quoted
 from tools.references.stepping.rules import PATH_LIMIT, PIECE, plan
 
 if TYPE_CHECKING:
-    from tools.references.stepping.facts import Notif
     from tools.references.stepping.sessions import Session
 
 # the last two answers are the report and the script of the session, whose listener is closed

@@ -1,20 +1,16 @@
 """Which rule of a policy decides each call of a file, and what the call misses of each rule before it, by what docs/reference/OUTPUTS.md says (An explanation)."""
 from __future__ import annotations
 
-from typing import TYPE_CHECKING, Any, List, Tuple, Union
+from typing import Any, List, Tuple, Union
 
 from tools.commands.messages.calls import BITS, fault_of
 from tools.commands.messages.policy_words import FLAGS
-from tools.commands.messages.script_lines import Line, number_of
+from tools.commands.messages.script_lines import Line, Token, number_of
 from tools.commands.real_workloads.script_text import CALLS
 from tools.references.stepping import rules as known
 from tools.references.stepping.facts import AT_FDCWD, call_text, quoted
 from tools.references.stepping.lexing import LineFault, tokens_of
-from tools.references.stepping.rules import MEETS, OTHER_CALLS, Mknod, Mount, OpenAt, Other, SetXattr, Sysinfo, call_of, decide, dirfd_of, has_flag, kind_of, path_of
-
-if TYPE_CHECKING:
-    from tools.references.stepping.rules import Rule
-    from tools.commands.messages.script_lines import Token
+from tools.references.stepping.rules import MEETS, OTHER_CALLS, Mknod, Mount, OpenAt, Other, Rule, SetXattr, Sysinfo, call_of, decide, dirfd_of, has_flag, kind_of, path_of
 
 TYPES = {"reg": 0o100000, "chr": 0o020000, "blk": 0o060000, "fifo": 0o010000, "sock": 0o140000}
 # why LXD's rules pass a call (Why a call is passed)

@@ -8,13 +8,12 @@ from typing import TYPE_CHECKING, Any, Dict, List, Optional, Tuple, Union
 
 from tools.commands.real_workloads.bpf import X86_64
 from tools.references.stepping import filters
-from tools.references.stepping.facts import AT_FDCWD, CALL_NAMES, CONTINUE, SEND, SETFD, Event, Fail, Notif
+from tools.references.stepping.facts import AT_FDCWD, CALL_NAMES, CONTINUE, SEND, SETFD, Addfd, Event, Fail, Notif
 from tools.references.stepping.memory import Group
 from tools.references.stepping.rules import EFAULT, Mknod, Mount, OpenAt, SetXattr, base_of, kind_of, plan, request_of
 from tools.references.stepping.trees import EBADF, ENOENT, ENOSYS, EPERM, Tree, Walk
 
 if TYPE_CHECKING:
-    from tools.references.stepping.facts import Addfd
     from tools.references.stepping.scripts import Instruction
 
 ESRCH, ECHILD, EAGAIN, EBUSY, EMFILE, EINPROGRESS, EDQUOT = 3, 10, 11, 16, 24, 115, 122

@@ -1,15 +1,11 @@
 """What `look` tells of the simulated kernel (docs/reference/STEP.md, A look). It changes nothing."""
 from __future__ import annotations
 
-from typing import TYPE_CHECKING, Any, Optional
+from typing import Any, Optional
 
 from tools.references.stepping.facts import ERROR_NAMES, Fail, quoted
-from tools.references.stepping.kernel import ESRCH
-from tools.references.stepping.trees import EEXIST, ENOENT, Walk
-
-if TYPE_CHECKING:
-    from tools.references.stepping.kernel import Kernel, Task
-    from tools.references.stepping.trees import Tree
+from tools.references.stepping.kernel import ESRCH, Kernel, Task
+from tools.references.stepping.trees import EEXIST, ENOENT, Tree, Walk
 
 NONE = "look none"
 

@@ -4,15 +4,12 @@ from __future__ import annotations
 import errno
 import json
 import re
-from typing import TYPE_CHECKING, Any, Dict, List, Tuple, Union
+from typing import Any, Dict, List, Tuple, Union
 
 from tools.commands.messages import policy_words as words
 from tools.commands.real_workloads.script_text import CALLS
 from tools.references.stepping.facts import AT_FDCWD, escaped, quoted
-from tools.references.stepping.rules import OTHER_CALLS, Rule, condition
-
-if TYPE_CHECKING:
-    from tools.references.stepping.rules import Condition
+from tools.references.stepping.rules import OTHER_CALLS, Condition, Rule, condition
 
 SAFE_DEVICES = ((0, 0), (5, 1), (1, 7), (1, 3), (1, 8), (5, 0), (1, 9), (1, 5))
 IGNORED = ("bpf", "bpf.devices", "sched_setscheduler")

@@ -2,14 +2,10 @@
 from __future__ import annotations
 
 from dataclasses import dataclass, field
-from typing import TYPE_CHECKING, Any, List, Optional, Tuple, Union
+from typing import Any, List, Optional, Tuple, Union
 
-from tools.references.stepping.facts import CONTINUE, SEND, SETFD, Fail, call_text, error_text, escaped, hex_or_dash, major_of, minor_of, number_text, quoted, result_text
-from tools.references.stepping.rules import Copy, Mknod, Mount, decide, kind_of, request_of
-
-if TYPE_CHECKING:
-    from tools.references.stepping.facts import Addfd, Event
-    from tools.references.stepping.rules import Rule, SetXattr
+from tools.references.stepping.facts import CONTINUE, SEND, SETFD, Addfd, Event, Fail, call_text, error_text, escaped, hex_or_dash, major_of, minor_of, number_text, quoted, result_text
+from tools.references.stepping.rules import Copy, Mknod, Mount, Rule, SetXattr, decide, kind_of, request_of
 
 EINTR, ENOENT, ESRCH, EDQUOT, ENOSYS = 4, 2, 3, 122, 38
 VERDICTS = {"deny": "denied", "grant": "granted", "pass": "passed", "inject": "injected"}

@@ -3,15 +3,12 @@ from __future__ import annotations
 
 import re
 from functools import lru_cache
-from typing import TYPE_CHECKING, Any, List, NamedTuple, Optional, Tuple, Union
+from typing import Any, List, NamedTuple, Optional, Tuple, Union
 
-from tools.commands.messages.script_lines import is_task, number_of
+from tools.commands.messages.script_lines import Token, is_task, number_of
 from tools.references.stepping import lexing
 from tools.references.stepping.lexing import LineFault
 from tools.references.stepping.rules import Mknod, Mount, SetXattr
-
-if TYPE_CHECKING:
-    from tools.commands.messages.script_lines import Token
 
 # as docs/reference/SCRIPT.md has them, the first that is shown is told (Refusals of a script)
 REASONS = ("wrong count", "wrong form", "bad number", "out of range", "unknown name")

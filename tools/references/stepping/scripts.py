@@ -3,19 +3,16 @@ from __future__ import annotations
 
 from collections import namedtuple
 from dataclasses import dataclass, field
-from typing import TYPE_CHECKING, Any, Callable, Iterator, Optional, Set, Type, Union
+from typing import Any, Callable, Iterator, Optional, Set, Type, Union
 
 from tools.commands.messages import operands
 from tools.commands.messages import script_words as words
 from tools.commands.messages.limits import MOST_STORED, Totals, own
-from tools.commands.messages.script_lines import FILTER, PROGRAM, SCHEDULE, SETTINGS, Line, Script, number_of
+from tools.commands.messages.script_lines import FILTER, PROGRAM, SCHEDULE, SETTINGS, Block, Line, Script, number_of
 from tools.commands.real_workloads.script_text import CALLS, FIRST_ADDRESS, FIRST_PAGES, MOST_CALLS, MOST_DEPTH, MOST_FILTERS, MOST_INSTRUCTIONS, MOST_PAGES, MOST_STEPS, MOST_TASKS
 from tools.references.stepping import filters, lexing
 from tools.references.stepping.lexing import LineFault
 from tools.references.stepping.requests import Asked, is_asking, read_tokens, seat_reason
-
-if TYPE_CHECKING:
-    from tools.commands.messages.script_lines import Block
 
 REASONS = (
     "bad byte", "bad quote", "unknown word", "out of place", "wrong count", "wrong form", "bad number", "out of range", "bad path", "unknown name", "duplicate", "unmapped",

@@ -2,15 +2,11 @@
 from __future__ import annotations
 
 from collections import Counter
-from typing import TYPE_CHECKING, Any, Optional, Tuple, Union
+from typing import Any, Optional, Tuple, Union
 
-from tools.references.stepping.facts import CONTINUE, O_CLOEXEC, SEND, SETFD, Addfd, Fail
+from tools.references.stepping.facts import CONTINUE, O_CLOEXEC, SEND, SETFD, Addfd, Event, Fail
 from tools.references.stepping.kernel import EMFILE, ENOENT, ESRCH, Kernel
-from tools.references.stepping.rules import Copy, Mount, OpenAt, Sysinfo, base_of, decide, request_of
-
-if TYPE_CHECKING:
-    from tools.references.stepping.facts import Event
-    from tools.references.stepping.rules import Rule
+from tools.references.stepping.rules import Copy, Mount, OpenAt, Rule, Sysinfo, base_of, decide, request_of
 
 EFFECTS = ("act", "plant")
 # in the place of an answer that there isn't yet

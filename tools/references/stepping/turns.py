@@ -1,15 +1,11 @@
 """The script that plays a history again: behind the lines of the script itself a schedule with each step of a task and each request of a worker."""
 from __future__ import annotations
 
-from typing import TYPE_CHECKING, Any, List, Union
+from typing import Any, List, Union
 
 from tools.commands.real_workloads.script_text import MOST_STEPS
-from tools.references.stepping.facts import CONTINUE, Fail, quoted
-from tools.references.stepping.rules import Mknod, Mount
-
-if TYPE_CHECKING:
-    from tools.references.stepping.facts import Event
-    from tools.references.stepping.rules import SetXattr
+from tools.references.stepping.facts import CONTINUE, Event, Fail, quoted
+from tools.references.stepping.rules import Mknod, Mount, SetXattr
 
 # the container's start, and all steps of a schedule; the closing of the listener is one event more
 MOST_EVENTS = 1 + MOST_STEPS
