@@ -9,7 +9,6 @@ import signal
 import sys
 import tempfile
 from argparse import Namespace
-from typing import Any
 
 from tools.commands.command_line.arguments import Parser
 from tools.commands.linux_stage import areas, changes, changes_of_names, comparison, differences, folders, probes, requirements, stand_in
