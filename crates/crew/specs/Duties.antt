@@ -1,5 +1,5 @@
 -- Who may serve, and who does all kinds of work.
-use Rattle.std.specs.Prelude.{◌≡◌, ◌⊎◌, ℕ, ◌≤◌, All, Option, Some, None, ⊤}
+use Rattle.std.specs.Prelude.{◌≡◌, ℕ, ◌≤◌, All, Option, Some, None, ⊤}
 use Rattle.crew.specs.declared.duty.Crew.{Crew}
 use Rattle.crew.specs.declared.duty.Duty.{Duty}
 use Rattle.crew.specs.declared.work.Work.{Work}
@@ -23,6 +23,6 @@ Takes crew made = MayServeAll made.limit crew
 abbrev pub IsAll : Work → Type 0
 IsAll work = work.bytes ≡ 72340172838076673
 
--- a thread does all kinds of work, at least as long as another one hasn't begun
+-- a thread does all kinds of work
 abbrev pub DoesAll : Duty → Type 0
-DoesAll d = IsAll d.does ⊎ IsAll d.helps
+DoesAll d = IsAll d.does

@@ -53,14 +53,12 @@ pub(crate) struct Wish {
 #[derive(Drop)]
 pub(crate) struct Board {
     rooms: Vec<Room>,
-    /// How many threads haven't begun.
-    missing: usize,
     /// Who sleeps, by the thread's place.
     asleep: Vec<Option<Wish>>,
 }
 
 impl Board {
-    /// Containers of which each has a task that may step, and so many lanes, and threads of which none has begun.
+    /// Containers of which each has a task that may step, and so many lanes, and threads that are awake.
     fn new(alloc: Global, containers: u8, lanes: u8, threads: usize) -> Result<Board, NoMemory> {
         let mut rooms = Vec::new(alloc);
         for _ in 0..containers {
@@ -75,16 +73,7 @@ impl Board {
         for _ in 0..threads {
             asleep.push(None)?;
         }
-        Ok(Board {
-            rooms,
-            missing: threads,
-            asleep,
-        })
-    }
-
-    /// A thread has begun.
-    pub(crate) fn begin(&mut self) {
-        self.missing = self.missing.saturating_sub(1);
+        Ok(Board { rooms, asleep })
     }
 
     /// The work that a thread does in a container, as things are.
@@ -92,16 +81,7 @@ impl Board {
         let Some(room) = self.rooms.get(usize::from(container)) else {
             return Work::NONE;
         };
-        self.work_of(duty).without(room.kept)
-    }
-
-    /// The work that a thread does, as things are.
-    pub(crate) fn work_of(&self, duty: &Duty) -> Work {
-        if self.missing == 0 {
-            duty.does
-        } else {
-            duty.does.with(duty.helps)
-        }
+        duty.does.without(room.kept)
     }
 
     /// Notes what a turn left in a container.
@@ -292,7 +272,7 @@ pub(crate) struct Door {
 }
 
 impl Door {
-    /// A door for so many containers with so many lanes each, and so many threads. No thread has begun.
+    /// A door for so many containers with so many lanes each, and so many threads.
     pub(crate) fn new(
         alloc: Global,
         containers: u8,

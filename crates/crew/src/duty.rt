@@ -17,8 +17,6 @@ pub struct Duty {
     pub worker: Option<u8>,
     /// The kinds of work that it does.
     pub does: Work,
-    /// The kinds of work that it does, besides, as long as some thread of the crew hasn't begun.
-    pub helps: Work,
 }
 
 /// This work, by no worker of its own.
@@ -28,7 +26,6 @@ fn only(work: Work) -> Duty
     Duty {
         worker: None,
         does: work,
-        helps: Work::NONE,
     }
 }
 
@@ -42,7 +39,6 @@ fn by_workers(place: u8, workers: u8) -> Duty
         Duty {
             worker: Some(place),
             does: Work::CALLS,
-            helps: Work::NONE,
         }
     } else {
         only(Work::TASKS)
@@ -63,7 +59,7 @@ fn by_lanes(place: u8, containers: u8) -> Duty
     }
 }
 
-/// The threads of a crew, by what they do. The calling one does all kinds of work, at least as long as some other one hasn't begun.
+/// The threads of a crew, by what they do. The calling one does all kinds of work, so nothing is left if another one can't be started.
 #[derive(Drop)]
 pub struct Crew {
     pub(crate) calling: Duty,
@@ -89,7 +85,6 @@ impl Crew {
         let calling = Duty {
             worker: Some(workers),
             does: Work::ALL,
-            helps: Work::NONE,
         };
         Ok(Crew {
             calling,
@@ -99,7 +94,7 @@ impl Crew {
     }
 
     /// For each of so many containers a thread that receives and one for each lane, `cpus` threads that step tasks, and the calling
-    /// one, which steps tasks too, and does the work of those that haven't begun. They all serve all containers.
+    /// one, which does all of it. They all serve all containers.
     pub fn of_lanes(alloc: Global, containers: u8, cpus: u8) -> Result<Crew, NoMemory>
         requires numbers { (containers ≤ 8) × (cpus ≤ 16) }
         ensures may { IfOk result (λ crew. MayServeAll (Some 15) crew) }
@@ -113,8 +108,7 @@ impl Crew {
         }
         let calling = Duty {
             worker: None,
-            does: Work::TASKS,
-            helps: Work::ALL,
+            does: Work::ALL,
         };
         Ok(Crew {
             calling,

@@ -15,11 +15,18 @@ pub enum Point {
 /// the lane where lanes are served, and the notification's id. It promises nothing, and the thread goes on once it returns.
 pub trait Gate {
     fn at(&self, point: Point, container: u8, server: u8, id: u64);
+
+    /// Whether a thread may be held there. It isn't called otherwise, so that no thread leaves the door for it.
+    fn holds(&self) -> bool;
 }
 
-/// A gate that returns at once.
+/// A gate that holds nobody.
 pub struct OpenGate;
 
 impl Gate for OpenGate {
     fn at(&self, _point: Point, _container: u8, _server: u8, _id: u64) {}
+
+    fn holds(&self) -> bool {
+        false
+    }
 }

@@ -45,7 +45,6 @@ pub(crate) struct Hand {
     duty: Duty,
     /// Its place in the crew, at whose bell it sleeps.
     place: usize,
-    has_begun: bool,
     /// The container in which it took its last turn.
     container: u8,
     /// What it was handed there of a lane.
@@ -57,15 +56,11 @@ pub(crate) struct Hand {
 }
 
 impl Hand {
-    /// Comes back to the door, from its gate or its sleep, or for the first time.
+    /// Comes back to the door, from its gate or its sleep.
     fn come_in(&mut self, door: &Door, board: &mut Board)
         ensures passes { self.new.passes ≡ self.old.passes }
         ensures worker { self.new.turn.errand.worker ≡ self.old.turn.errand.worker }
     {
-        if !self.has_begun {
-            self.has_begun = true;
-            board.begin();
-        }
         door.found(self.seeks);
         board.give_back(self.container, self.keeps);
         self.seeks = Work::NONE;
@@ -80,7 +75,7 @@ impl Hand {
         if self.turn.turned.in_hand {
             board.same(self.container, count)
         } else {
-            board.next(self.container, count, board.work_of(&self.duty))
+            board.next(self.container, count, self.duty.does)
         }
     }
 
@@ -111,8 +106,8 @@ impl Hand {
     }
 
     /// What it sleeps for, where it found nothing to do.
-    fn wish(&self, board: &Board) -> Wish {
-        let work = board.work_of(&self.duty);
+    fn wish(&self) -> Wish {
+        let work = self.duty.does;
         if self.turn.turned.in_hand {
             Wish {
                 work: work.without(Work::CALLS),
@@ -136,7 +131,7 @@ impl Hand {
             return true;
         }
         door.wake_for_work(&mut board);
-        let wish = self.wish(&board);
+        let wish = self.wish();
         door.sleep(rt, board, self.place, wish);
         self.seeks = wish.work;
         false
@@ -147,7 +142,7 @@ impl Hand {
         ensures passes { self.new.passes ≡ self.old.passes }
         ensures worker { self.new.turn.errand.worker ≡ self.old.turn.errand.worker }
     {
-        self.seeks = board.work_of(&self.duty);
+        self.seeks = self.duty.does;
         door.seek(self.seeks);
         door.wake_for_work(&mut board);
     }
@@ -166,7 +161,7 @@ impl Hand {
         else {
             return;
         };
-        let sought = board.work_of(&self.duty);
+        let sought = self.duty.does;
         board.keep(self.container, keeps);
         door.wake_for_work(&mut board);
         drop(board);
@@ -251,12 +246,12 @@ fn take_turns<S: Crewed, W: Wait, G: Gate>(
         let handed = board.hand_out(rt, container, work);
         hand.turn_in(rt, locks, container, handed, work);
         match hand.after_turn(rt, door, &mut board) {
-            Next::Turn => {}
             Next::Rest => return hand.rest(rt, door, board),
-            Next::Call => {
+            Next::Call if gate.holds() => {
                 hand.call(gate, door, board);
                 return false;
             }
+            Next::Turn | Next::Call => {}
             Next::End => return true,
         }
     }
@@ -313,7 +308,6 @@ fn new_hand<S: Crewed>(
         },
         duty,
         place,
-        has_begun: false,
         container: 0,
         handed: None,
         seeks: Work::NONE,

@@ -81,6 +81,10 @@ impl Gate for HoldLane {
             Point::Sent => self.sent(lane),
         }
     }
+
+    fn holds(&self) -> bool {
+        true
+    }
 }
 
 /// The history of a script's container that was served by lanes, with one hand beside that steps tasks.

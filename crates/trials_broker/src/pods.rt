@@ -56,6 +56,10 @@ impl Gate for HoldFirst {
             self.sent.fetch_add(1, Ordering::SeqCst);
         }
     }
+
+    fn holds(&self) -> bool {
+        true
+    }
 }
 
 /// The container at a place: its tasks make nodes, and get PIDs from ten times its place on. The first one's policy grants them, and

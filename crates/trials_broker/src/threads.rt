@@ -58,6 +58,10 @@ impl Gate for HoldFirst {
             }
         }
     }
+
+    fn holds(&self) -> bool {
+        true
+    }
 }
 
 /// Runs the two tasks with so many workers and hands for tasks, and sees that the report ends with their summary.
