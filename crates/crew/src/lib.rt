@@ -6,8 +6,8 @@
 //! them, or steps tasks. All threads meet at one door, and sleep there; which containers have work of which kind stands on a board
 //! behind it (`door`). There lie the queues, too, from which notifications are handed to those that serve lanes (`lanes`).
 //!
-//! A thread that can't be created begins once another one has ended. So the calling one does all kinds of work as long as some other one
-//! hasn't begun: no thread sleeps while work is left that only threads which haven't begun would do.
+//! A thread that can't be created begins once another one has ended. So the calling one does all kinds of work: no thread sleeps while
+//! work is left that only threads which haven't begun would do.
 //!
 //! Its model is that of the states, whose types say what each turn keeps of a history. Below stand the lock (`turn_lock`) and a
 //! lane's queue (`lane_queue`). The states stand above.
