@@ -4,7 +4,8 @@
 
 N pairs are drawn (120). Of `compare` each line but for its call has to be as tools/references/reference-compare has it, of `check` what
 each claim comes to as tools/references/reference-check has it, and of `lint` the findings on rules that are exact as
-tools/references/reference-lint has them, and of damaged policies what is refused and where; a call behind a hint has to be granted. Each
+tools/references/reference-lint has them, the rules that pass calls of which other texts are denied, with two such calls of each, and of
+damaged policies what is refused and where; a call behind a hint has to be granted. Each
 call that is printed has to be decided by the rule that is printed with it, by `explain` and by the simulated kernel in Python, and be at most
 each call of the same two rules that brute force finds (`tools/references/deciding/order.py`); for --played of the pairs (20) a call is
 played as a script too, and the audit has to name that rule. (No file of calls has a node of another kind or a device's number of more than
@@ -32,6 +33,7 @@ from tools.references.deciding.comparing import Change, Pair, changes, counts, p
 from tools.references.deciding.drawn import drawn, text
 from tools.references.deciding.linting import WORDS, findings, lines_of, refusal_line
 from tools.references.deciding.order import rank
+from tools.references.deciding.passed import passing, registers_of
 from tools.references.deciding.played import script_of
 from tools.references.stepping.explaining import Refused as NoCall, calls_of
 from tools.references.stepping.policies import Refused, read_policy
@@ -45,6 +47,8 @@ CHANGE = re.compile(rf"(wider|narrower|other) (.+) old-rule=(\S+) old=({ANSWER})
 COUNT = re.compile(r"counts (.+) and (.+) old=(together|apart) new=(together|apart)")
 STANDING = re.compile(r"(held|refuted|undecided) (\S+)(?: (vacuous)|(?: (.+) rule=(\S+))?)")
 HINT = re.compile(r".* by=(\S+) call=(.*)")
+PASSED = re.compile(r"pass-by-memory .* by=(?P<by>\S+) call=(?P<call>(?:[^\"]|\"(?:[^\"\\]|\\.)*\")*?) denied=(?P<denied>\S+) other=(?P<other>.*)")
+UNSURE = "it wasn't found whether another passed call is denied"
 DECISION = re.compile(r"\d+ .* rule=(\S+) verdict=.*")
 AUDITED = re.compile(rb"^\d+ w0 id=1 \S+ rule=(\S+) verdict=(\S+)", re.M)
 OTHER_KINDS = {"dir": 0o040000, "bad": 0o170000}
@@ -202,15 +206,29 @@ def linted(asked: Any, data: bytes, own: int) -> None:
     rules = read_policy(data)
     wanted = list(map(parted, lines_of(data, findings(rules, own))))
     _, output = asked.says("lint", "new.json")
-    found = [parted(line) for line in output.splitlines() if line.partition(" ")[0] in (*WORDS, "undecided")]
+    found = [parted(line) for line in output.splitlines() if line.partition(" ")[0] in (*WORDS, "undecided") and UNSURE not in line]
     for line in output.splitlines():
         hint = HINT.fullmatch(line)
-        if hint:
+        if hint and not PASSED.fullmatch(line):
             witness = Witness(hint[2], {"new.json": rules}, {"new.json": hint[1]})
             need(decide(rules, witness.request).verdict == "grant", f"lint: {line!r}: the call isn't granted")
             check_witnesses(asked, [witness])
     wrong = next(((one, other) for one, other in zip_longest(wanted, found) if one != other), None)
     need(wrong is None, f"lint: {wrong and wrong[0]}, and it says {wrong and wrong[1]}")
+    passed_told(asked, rules, output.splitlines())
+
+
+def passed_told(asked, rules, lines):
+    """Checks which rules pass calls that are denied for other texts, and the two calls of each."""
+    wanted = {rules[place].name: {rules[it].name for it in denying} for place, denying in passing(rules).items()}
+    told = [it for it in map(PASSED.fullmatch, lines) if it]
+    need(sorted(it["by"] for it in told) == sorted(wanted), f"lint: {sorted(wanted)} pass by memory, and it says {sorted(it['by'] for it in told)}")
+    for it in told:
+        need(it["denied"] in wanted[it["by"]], f"lint: {it[0]!r}: that rule denies no such call")
+        pairs_of_calls = [(call, other) for call in requests_of(it["call"]) for other in requests_of(it["other"]) if registers_of(call) == registers_of(other)]
+        shown = [[(rule.name, rule.verdict) for rule in (decide(rules, call), decide(rules, other))] for call, other in pairs_of_calls]
+        need([(it["by"], "pass"), (it["denied"], "deny")] in shown, f"lint: {it[0]!r}: these aren't passed and denied by these rules, with the same registers")
+        check_witnesses(asked, [Witness(it[call], {"new.json": rules}, {"new.json": it[rule]}) for call, rule in (("call", "by"), ("other", "denied"))])
 
 
 def parted(line: str) -> Tuple[List[str], List[str]]:

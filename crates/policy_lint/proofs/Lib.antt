@@ -1,6 +1,9 @@
+pub mod AnyText
 pub mod DecidingPlaces
 pub mod Faults
 pub mod OwnRules
 pub mod Partners
+pub mod Passing
 pub mod RuleClasses
 pub mod Said
+pub mod Verdicts

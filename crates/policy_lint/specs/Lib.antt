@@ -4,3 +4,4 @@ pub mod Judged
 pub mod Lines
 pub mod Looked
 pub mod Own
+pub mod Passed

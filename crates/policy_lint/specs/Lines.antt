@@ -1,12 +1,12 @@
 -- The lines of what is found.
-use Rattle.std.specs.Prelude.{ℕ, Bool, true, false, if◌then◌else◌, List, [], ◌∷◌, ◌++◌, codes, decimal, length, ◌==◌}
+use Rattle.std.specs.Prelude.{ℕ, Bool, true, false, ◌||◌, if◌then◌else◌, List, [], ◌∷◌, ◌++◌, codes, decimal, length}
 use Rattle.std.specs.List.{flat_map, list_all}
 use Rattle.hist_model.specs.Decisions.{rule_name}
 use Rattle.hist_model.specs.declared.policy.Rule.{Rule}
 use Rattle.policy_classes.specs.declared.ending.Ending.{Ending}
 use Rattle.policy_classes.specs.declared.ending.Ending.TheVariants as ending
 use Rattle.policy_lint.specs.declared.finding.Fault.{Fault}
-use Rattle.policy_lint.specs.declared.finding.Fault.TheVariants.{Refused, Judged, Granted, Noted, NoEffect}
+use Rattle.policy_lint.specs.declared.finding.Fault.TheVariants.{Refused, Judged, Granted, Passed, Unsure, Noted, NoEffect}
 use Rattle.policy_lint.specs.declared.finding.Finding.{Finding}
 use Rattle.policy_lint.specs.declared.finding.Hint.{Hint}
 use Rattle.policy_lint.specs.declared.finding.Hint.TheVariants.{GoneAround, WideDevice, BothKinds, NotAsLxd, RiskyType}
@@ -99,6 +99,8 @@ abbrev pub fault_word : Fault → List ℕ
 fault_word (Refused error cure) = refusal_word error
 fault_word (Judged place judgement) = judgement_word judgement
 fault_word (Granted hint place by call) = hint_word hint
+fault_word (Passed place by call against other) = codes "pass-by-memory"
+fault_word (Unsure place) = codes "undecided"
 fault_word (Noted note place cure) = note_word note
 fault_word (NoEffect place front) = codes "no-effect"
 
@@ -106,6 +108,8 @@ abbrev pub fault_place : Fault → List ℕ
 fault_place (Refused error cure) = refusal_place error
 fault_place (Judged place judgement) = codes "rules[" ++ decimal place ++ codes "]" ++ within_rule judgement
 fault_place (Granted hint place by call) = place
+fault_place (Passed place by call against other) = place
+fault_place (Unsure place) = place
 fault_place (Noted note place cure) = place
 fault_place (NoEffect place front) = place
 
@@ -113,10 +117,20 @@ fault_place (NoEffect place front) = place
 abbrev pub no_effect_front : List ℕ
 no_effect_front = codes "no rule has a name that begins with "
 
+-- what is said of a rule that passes a call of which other texts would be denied
+abbrev pub passed_front : List ℕ
+passed_front = codes "this passes a call that is denied if other bytes stand in its memory by="
+
+abbrev pub unsure_words : List ℕ
+unsure_words = codes "it wasn't found whether another passed call is denied if other bytes stand in its memory"
+
 abbrev pub fault_words : List Rule → Fault → List ℕ
 fault_words rules (Refused error cure) = cure
 fault_words rules (Judged place judgement) = judgement_words rules place judgement
 fault_words rules (Granted hint place by call) = hint_words hint ++ codes " by=" ++ rule_name rules by ++ codes " call=" ++ asked_text call
+fault_words rules (Passed place by call against other) = passed_front ++ rule_name rules by ++ codes " call=" ++ asked_text call
+    ++ codes " denied=" ++ rule_name rules against ++ codes " other=" ++ asked_text other
+fault_words rules (Unsure place) = unsure_words
 fault_words rules (Noted note place cure) = cure
 fault_words rules (NoEffect place front) = no_effect_front ++ front
 
@@ -143,12 +157,24 @@ abbrev pub is_undecided : Fault → Bool
 is_undecided (Refused error cure) = false
 is_undecided (Judged place judgement) = is_open judgement
 is_undecided (Granted hint place by call) = false
+is_undecided (Passed place by call against other) = false
+is_undecided (Unsure place) = true
 is_undecided (Noted note place cure) = false
 is_undecided (NoEffect place front) = false
 
--- nothing is found; nothing was found out; or something is found
+-- it leaves the status as it is: the kernel asks for no such policy, and a job may go on
+abbrev pub is_aside : Fault → Bool
+is_aside (Refused error cure) = false
+is_aside (Judged place judgement) = false
+is_aside (Granted hint place by call) = false
+is_aside (Passed place by call against other) = true
+is_aside (Unsure place) = false
+is_aside (Noted note place cure) = false
+is_aside (NoEffect place front) = false
+
+-- nothing is found but that calls are passed which other texts would deny; nothing was found out; or something is found
 abbrev pub ending_of : List Finding → Ending
 ending_of findings =
-    if length findings == 0 then ending.Alike
-    else if list_all (λ (f : Finding). is_undecided f.fault) findings then ending.Undecided
+    if list_all (λ (f : Finding). is_aside f.fault) findings then ending.Alike
+    else if list_all (λ (f : Finding). is_aside f.fault || is_undecided f.fault) findings then ending.Undecided
     else ending.Otherwise

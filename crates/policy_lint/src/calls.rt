@@ -46,3 +46,30 @@ pub fn with_fstype(alloc: Global, request: &Request, new: &[u8]) -> Result<Reque
     }
     Ok(other)
 }
+
+/// The call with another source of its mount.
+pub fn with_source(alloc: Global, request: &Request, new: &[u8]) -> Result<Request, NoMemory> {
+    let mut other = request.copied(alloc)?;
+    if let Request::Mount { source, .. } = &mut other {
+        *source = text_of(alloc, new)?;
+    }
+    Ok(other)
+}
+
+/// The call with another name of its attribute.
+pub fn with_name(alloc: Global, request: &Request, new: &[u8]) -> Result<Request, NoMemory> {
+    let mut other = request.copied(alloc)?;
+    if let Request::SetXattr { name, .. } = &mut other {
+        *name = text_of(alloc, new)?;
+    }
+    Ok(other)
+}
+
+/// The call with another value of its attribute.
+pub fn with_value(alloc: Global, request: &Request, new: &[u8]) -> Result<Request, NoMemory> {
+    let mut other = request.copied(alloc)?;
+    if let Request::SetXattr { value, .. } = &mut other {
+        *value = text_of(alloc, new)?;
+    }
+    Ok(other)
+}

@@ -49,6 +49,18 @@ pub enum Fault {
         by: usize,
         call: Request,
     },
+    /// The rule `by` passes a call, and the rule `against` denies another one that differs in its texts alone.
+    Passed {
+        place: Text,
+        by: usize,
+        call: Request,
+        against: usize,
+        other: Request,
+    },
+    /// It wasn't found whether another rule does so.
+    Unsure {
+        place: Text,
+    },
     /// What is said of a key at this place; and what would be right.
     Noted {
         note: Note,

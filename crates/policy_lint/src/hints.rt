@@ -89,13 +89,14 @@ fn granted(alloc: Global, policy: &Policy, candidate: &Candidate) -> Result<Opti
 /// Where in the text a hint is.
 fn begin_of(bytes: &[u8], scanned: &Scanned, fault: &Fault) -> usize {
     match fault {
-        Fault::Granted { place, .. } => scanned.begin_of(scanned.at_path(bytes, place.items())),
+        Fault::Granted { place, .. } | Fault::Passed { place, .. } | Fault::Unsure { place, .. } =>
+            scanned.begin_of(scanned.at_path(bytes, place.items())),
         _ => 0,
     }
 }
 
 /// What is found at its place.
-fn placed(bytes: &[u8], scanned: &Scanned, position: &mut Position<'_>, fault: Fault) -> Finding
+pub fn placed(bytes: &[u8], scanned: &Scanned, position: &mut Position<'_>, fault: Fault) -> Finding
     ensures { result.fault ≡ fault }
 {
     let at = begin_of(bytes, scanned, &fault);

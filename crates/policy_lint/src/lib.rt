@@ -4,6 +4,9 @@
 //! whether it decides one, and whether one would have another answer without it (`specs/Judged.antt`). Of a policy that is refused it
 //! tells the refusal with its line and column and, as far as that can be told, what would be right.
 //!
+//! It tells as well which rules pass a call that is denied if other bytes stand in its memory (`specs/Passed.antt`): `passed` looks at
+//! all calls by the rules that are left if texts may be any (`any_text`), and tries other texts (`other_texts`) until two calls show it.
+//!
 //! `judging` looks at all calls by `policy_classes`. A look at many rules takes long, so the looks of one policy are limited; where
 //! they end, it is told of which rules nothing was found. `scanner` and `places` find where things stand in the text, and `cures` what
 //! may have been meant: nothing that is decided rests on them. `lines` writes what is found.
@@ -16,6 +19,7 @@ ghost use Rattle.policy_lint.specs.Found.{IsToldOf, Tells};
 ghost use Rattle.policy_reader.specs.Policies.{policy};
 
 mod alike;
+mod any_text;
 mod calls;
 mod candidates;
 mod cures;
@@ -27,7 +31,9 @@ mod lines;
 mod linting;
 mod nearest;
 mod notes;
+mod other_texts;
 mod own;
+mod passed;
 mod places;
 mod positions;
 mod risks;

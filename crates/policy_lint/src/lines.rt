@@ -1,9 +1,10 @@
 //! The lines of what is found.
 
-ghost use Rattle.std.specs.Prelude.{◌≡◌, ◌++◌, ◌<◌, OnOk, IfOk, IfErr, All, Any, codes, decimal, length};
+ghost use Rattle.std.specs.Prelude.{◌≡◌, ◌++◌, ◌||◌, OnOk, IfOk, codes};
 ghost use Rattle.std.specs.List.{flat_map, list_all};
 ghost use Rattle.policy_lint.specs.declared.finding.Finding.{Finding as AnyFinding};
 ghost use Rattle.hist_model.specs.Decisions.{rule_name};
+ghost use Rattle.policy_lint.specs.Lines.{is_aside, passed_front, unsure_words};
 ghost use Rattle.policy_lint.specs.Lines.{ending_of, fault_place, fault_word, fault_words, is_undecided, judgement_front, judgement_names, judgement_word, judgement_words, no_effect_front};
 ghost use Rattle.policy_explain.specs.Asked.{asked_text};
 ghost use Rattle.policy_lint.specs.Lines.{hint_word, hint_words, note_word};
@@ -190,6 +191,8 @@ fn fault_word(fault: &Fault) -> &'static str
         Fault::Refused { error, .. } => refusal_word(error),
         Fault::Judged { judgement, .. } => judgement_word(judgement),
         Fault::Granted { hint, .. } => hint_word(*hint),
+        Fault::Passed { .. } => "pass-by-memory",
+        Fault::Unsure { .. } => "undecided",
         Fault::Noted { note, .. } => note_word(*note),
         Fault::NoEffect { .. } => "no-effect",
     }
@@ -207,8 +210,11 @@ fn push_place(line: &mut LineBuffer, fault: &Fault) -> Result<(), NoMemory>
             line.push("]")?;
             line.push(within_rule(judgement))
         }
-        Fault::Granted { place, .. } | Fault::Noted { place, .. } | Fault::NoEffect { place, .. } =>
-            line.push_bytes(place.items()),
+        Fault::Granted { place, .. }
+        | Fault::Passed { place, .. }
+        | Fault::Unsure { place, .. }
+        | Fault::Noted { place, .. }
+        | Fault::NoEffect { place, .. } => line.push_bytes(place.items()),
     }
 }
 
@@ -229,6 +235,44 @@ fn push_hint(
     push_name(line, rules, by)?;
     line.push(" call=")?;
     push_asked(alloc, line, call)
+}
+
+/// What is said of a rule that passes a call of which other texts would be denied.
+fn passed_front() -> &'static str
+    ensures { result.now ≡ passed_front }
+{
+    "this passes a call that is denied if other bytes stand in its memory by="
+}
+
+/// Adds that a rule passes a call of which other texts would be denied, with both calls.
+fn push_passed(
+    alloc: Global,
+    line: &mut LineBuffer,
+    rules: &[Rule],
+    by: usize,
+    call: &Request,
+    against: usize,
+    other: &Request,
+) -> Result<(), NoMemory>
+    ensures { OnOk result (line.new ≡ line.old
+        ++ (passed_front ++ rule_name rules.now by ++ codes " call=" ++ asked_text call.now
+        ++ codes " denied=" ++ rule_name rules.now against ++ codes " other=" ++ asked_text other.now)) }
+{
+    line.push(passed_front())?;
+    push_name(line, rules, by)?;
+    line.push(" call=")?;
+    push_asked(alloc, line, call)?;
+    line.push(" denied=")?;
+    push_name(line, rules, against)?;
+    line.push(" other=")?;
+    push_asked(alloc, line, other)
+}
+
+/// What is said where this wasn't found out.
+fn unsure_words() -> &'static str
+    ensures { result.now ≡ unsure_words }
+{
+    "it wasn't found whether another passed call is denied if other bytes stand in its memory"
 }
 
 /// What is said of a key that makes no rule, before the front of its rules' names.
@@ -259,6 +303,14 @@ fn push_words(
         Fault::Refused { cure, .. } | Fault::Noted { cure, .. } => line.push_bytes(cure.items()),
         Fault::Judged { place, judgement } => push_judgement(line, rules, *place, judgement),
         Fault::Granted { hint, by, call, .. } => push_hint(alloc, line, rules, *hint, *by, call),
+        Fault::Passed {
+            by,
+            call,
+            against,
+            other,
+            ..
+        } => push_passed(alloc, line, rules, *by, call, *against, other),
+        Fault::Unsure { .. } => line.push(unsure_words()),
         Fault::NoEffect { front, .. } => push_no_effect(line, front),
     }
 }
@@ -323,23 +375,41 @@ fn is_undecided(fault: &Fault) -> bool
         Fault::Judged {
             judgement: Judgement::Undecided,
             ..
-        } => true,
+        }
+        | Fault::Unsure { .. } => true,
         _ => false,
     }
 }
 
-/// Whether nothing was found out in any of these.
-fn are_undecided(findings: &[Finding]) -> bool
-    ensures { result ≡ list_all (λ (f : AnyFinding). is_undecided f.fault) findings.now }
+/// Whether it leaves the status as it is.
+fn is_aside(fault: &Fault) -> bool
+    ensures { result ≡ is_aside fault.now }
 {
-    findings.iter().all(|finding| is_undecided(&finding.fault))
+    match fault {
+        Fault::Passed { .. } => true,
+        _ => false,
+    }
+}
+
+/// Whether all of these do.
+fn are_aside(findings: &[Finding]) -> bool
+    ensures { result ≡ list_all (λ (f : AnyFinding). is_aside f.fault) findings.now }
+{
+    findings.iter().all(|finding| is_aside(&finding.fault))
+}
+
+/// Whether nothing was found out in any of the others.
+fn are_undecided(findings: &[Finding]) -> bool
+    ensures { result ≡ list_all (λ (f : AnyFinding). is_aside f.fault || is_undecided f.fault) findings.now }
+{
+    findings.iter().all(|finding| is_aside(&finding.fault) || is_undecided(&finding.fault))
 }
 
 /// How it ends.
 pub fn ending_of(findings: &[Finding]) -> Ending
     ensures { result ≡ ending_of findings.now }
 {
-    if findings.is_empty() {
+    if are_aside(findings) {
         Ending::Alike
     } else if are_undecided(findings) {
         Ending::Undecided

@@ -2,7 +2,7 @@
 
 ghost use Rattle.std.specs.Prelude.{◌≡◌, ◌≢◌, ◌+◌, ◌<◌, ◌≤◌, [], ◌∷◌, IfOk, IsTrue, OnOk, List, ◌↔◌, length};
 ghost use Rattle.hist_model.specs.declared.policy.Rule.{Rule as AnyRule};
-ghost use Rattle.policy_lint.specs.Found.{AreFindings, AreSaid, FoundUpTo, IsRefusal};
+ghost use Rattle.policy_lint.specs.Found.{AreAllTold, AreFindings, AreSaid, FoundUpTo, IsRefusal};
 ghost use Rattle.policy_lint.specs.Judged.{IsJudged};
 ghost use Rattle.policy_lint.specs.Own.{own_number};
 ghost use Rattle.policy_lint.specs.Looked.{AreClasses};
@@ -15,6 +15,7 @@ use crate::judgement::Judgement;
 use crate::judging::{Looks, judge, looked};
 use crate::notes::find_notes;
 use crate::own::own_number;
+use crate::passed::find_passed;
 use crate::places::Places;
 use crate::positions::Position;
 use crate::scanner::Scanned;
@@ -77,7 +78,7 @@ fn find_faults(
     all: &Classes,
 ) -> Result<Vec<Finding>, NoMemory>
     requires { AreClasses rules.now [] all.now }
-    ensures { IfOk result (λ findings. AreFindings rules.now findings.items) }
+    ensures { IfOk result (λ findings. FoundUpTo rules.now (own_number rules.now) findings.items) }
 {
     let places = Places::new(alloc, bytes, scanned)?;
     let mut looks = Looks::new();
@@ -96,12 +97,15 @@ fn find_faults(
 fn in_order(
     mut findings: Vec<Finding>,
     mut hints: Vec<Finding>,
+    mut passed: Vec<Finding>,
     mut notes: Vec<Finding>,
 ) -> Result<Vec<Finding>, NoMemory>
-    ensures { (rules : List AnyRule) → AreFindings rules findings.items → AreSaid rules hints.items → AreSaid rules notes.items
+    ensures { (rules : List AnyRule) → FoundUpTo rules (own_number rules) findings.items → AreSaid rules hints.items
+        → AreSaid rules passed.items → AreAllTold rules passed.items → AreSaid rules notes.items
         → IfOk result (λ all. AreFindings rules all.items) }
 {
     findings.append(&mut hints)?;
+    findings.append(&mut passed)?;
     findings.append(&mut notes)?;
     findings.sort_by_key(|finding| finding.at)?;
     Ok(findings)
@@ -120,8 +124,9 @@ pub fn find_all(
     let all = looked(alloc, rules, &[])?;
     let findings = find_faults(alloc, bytes, scanned, rules, &all)?;
     let hints = find_hints(alloc, bytes, scanned, policy, all.classes.items())?;
+    let passed = find_passed(alloc, bytes, scanned, policy)?;
     let notes = find_notes(alloc, bytes, scanned, rules)?;
-    in_order(findings, hints, notes)
+    in_order(findings, hints, passed, notes)
 }
 
 /// What is found of a policy that is refused.

@@ -142,17 +142,20 @@ def standing_lines(document: Dict[str, Any]) -> Iterator[str]:
 # ---- findings
 
 PLACE = rf"(?:[^ \"]|{QUOTED})+"
-FINDING_LINE = re.compile(rf"([a-z-]+) ({PLACE}) ({DIGITS}):({DIGITS}) (.*?)(?: by=(\S+)(?: call=(.*))?)?")
+FINDING_LINE = re.compile(rf"([a-z-]+) ({PLACE}) ({DIGITS}):({DIGITS}) (.*?)(?: by=(\S+)(?: call=((?:[^\"]|{QUOTED})*?)(?: denied=(\S+) other=(.*))?)?)?")
 FINDINGS_LINE = re.compile(rf"findings=({DIGITS})")
 NAMES = Kind(lambda word: word.split(",") if word else [], lambda names: f" by={','.join(names)}" if names else "")
 ITS_CALL = Kind(lambda words: CALL.read(words) if words else None, lambda call: "" if call is None else f" call={CALL.write(call)}")
-FINDING = Form("{finding} {place} {line}:{column} {says}{by}{call}", finding=WORD, place=WORD, line=NUMBER, column=NUMBER, says=WORD, by=NAMES, call=ITS_CALL)
+OTHER_CALL = Kind(ITS_CALL.read, lambda call: "" if call is None else f" other={CALL.write(call)}")
+FINDING = Form(
+    "{finding} {place} {line}:{column} {says}{by}{call}{denied}{other}", finding=WORD, place=WORD, line=NUMBER, column=NUMBER, says=WORD, by=NAMES, call=ITS_CALL,
+    denied=Kind(lambda word: word or None, lambda name: "" if name is None else f" denied={name}"), other=OTHER_CALL)
 
 
 def finding_of(lines: Lines) -> Dict[str, Any]:
     fields = ["" if it is None else it for it in lines.take(FINDING_LINE, "a finding")]
     found = FINDING.read(fields)
-    if fields[-1] and found["call"] is None:
+    if any(text and found[name] is None for text, name in ((fields[6], "call"), (fields[8], "other"))):
         raise NotAReport(lines.at, "the call has another form")
     return found
 
