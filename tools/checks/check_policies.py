@@ -222,7 +222,8 @@ def passed_told(asked, rules, lines):
     """Checks which rules pass calls that are denied for other texts, and the two calls of each."""
     wanted = {rules[place].name: {rules[it].name for it in denying} for place, denying in passing(rules).items()}
     told = [it for it in map(PASSED.fullmatch, lines) if it]
-    need(sorted(it["by"] for it in told) == sorted(wanted), f"lint: {sorted(wanted)} pass by memory, and it says {sorted(it['by'] for it in told)}")
+    found, is_unsure = sorted(it["by"] for it in told), any(UNSURE in line for line in lines)
+    need(found == sorted(wanted) or (is_unsure and set(found) <= set(wanted) and len(set(found)) == len(found)), f"lint: {sorted(wanted)} pass by memory, and it says {found}")
     for it in told:
         need(it["denied"] in wanted[it["by"]], f"lint: {it[0]!r}: that rule denies no such call")
         pairs_of_calls = [(call, other) for call in requests_of(it["call"]) for other in requests_of(it["other"]) if registers_of(call) == registers_of(other)]
