@@ -53,7 +53,7 @@ pub all_told : (rules : List Rule) (found : Classes) (findings : List Finding) �
 all_told rules found findings a w heeded = λ i p. one i p
   where
     one : (i : ℕ) → PassesByMemory rules i → Any (TellsOfPass i) findings
-    one i (q, r, against, cq, cr, o) = by (a.there w q cq)
+    one i (q, r, against, o) = by (a.there w q o.call_made)
       where
         by : Any (Holds rules (of_any_text rules) q) found.classes → Any (TellsOfPass i) findings
         by (k, c, l, e, h) =
@@ -81,7 +81,7 @@ pub nothing_denied : (rules : List Rule) → list_any deny rules ≡ false → A
 nothing_denied rules h = λ i p. one i p
   where
     one : (i : ℕ) → PassesByMemory rules i → Any (TellsOfPass i) []
-    one i (q, r, against, cq, cr, o) =
+    one i (q, r, against, o) =
         let d : denies (verdict_at rules (decide rules r).0) ≡ true = ap denies (sym (decided_verdict rules r)) ∙ o.denied.1 in
         let n : denies (verdict_at rules (decide rules r).0) ≡ false = none_denies rules (decide rules r).0 h in
         absurd (both_ways (denies (verdict_at rules (decide rules r).0)) n d)

@@ -10,22 +10,21 @@ use Rattle.hist_model.specs.declared.request.Request.{Request}
 use Rattle.policy_lint.specs.Passed.{denies, verdict_at}
 
 -- the rule so many places behind the first one decides
-IsSo : List Rule → ℕ → ℕ × Verdict → Type 0
+abbrev IsSo : List Rule → ℕ → ℕ × Verdict → Type 0
 IsSo rules n d = (k : ℕ) × (d.0 ≡ n + k) × (d.1 ≡ verdict_at rules k)
 
 decided_from : (n : ℕ) (rules : List Rule) (q : Request) → IsSo rules n (decide_from n rules q)
-unfolding decide_from IsSo
+unfolding decide_from
 decided_from n [] q = (0, omega arith, refl)
 decided_from n (rule ∷ rules) q = by (fits rule q) (decided_from (n + 1) rules q)
   where
     by : (b : Bool) → IsSo rules (n + 1) (decide_from (n + 1) rules q)
         → IsSo (rule ∷ rules) n (if b then (n, rule.verdict) else decide_from (n + 1) rules q)
-    unfolding IsSo
     by true rest = (0, omega arith, refl)
     by false (k, e, v) = (suc k, omega arith, v)
 
 pub decided_verdict : (rules : List Rule) (q : Request) → (decide rules q).1 ≡ verdict_at rules (decide rules q).0
-unfolding decide IsSo
+unfolding decide
 decided_verdict rules q = by (decided_from 0 rules q)
   where
     by : IsSo rules 0 (decide_from 0 rules q) → (decide_from 0 rules q).1 ≡ verdict_at rules (decide_from 0 rules q).0

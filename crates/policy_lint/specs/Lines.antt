@@ -3,6 +3,7 @@ use Rattle.std.specs.Prelude.{ℕ, Bool, true, false, ◌||◌, if◌then◌else
 use Rattle.std.specs.List.{flat_map, list_all}
 use Rattle.hist_model.specs.Decisions.{rule_name}
 use Rattle.hist_model.specs.declared.policy.Rule.{Rule}
+use Rattle.hist_model.specs.declared.request.Request.{Request}
 use Rattle.policy_classes.specs.declared.ending.Ending.{Ending}
 use Rattle.policy_classes.specs.declared.ending.Ending.TheVariants as ending
 use Rattle.policy_lint.specs.declared.finding.Fault.{Fault}
@@ -121,6 +122,14 @@ no_effect_front = codes "no rule has a name that begins with "
 abbrev pub passed_front : List ℕ
 passed_front = codes "this passes a call that is denied if other bytes stand in its memory by="
 
+-- the rule that passes a call, and the call
+abbrev pub passed_text : List Rule → ℕ → Request → List ℕ
+passed_text rules by call = passed_front ++ rule_name rules by ++ codes " call=" ++ asked_text call
+
+-- the rule that denies the other call, and that call
+abbrev pub denied_text : List Rule → ℕ → Request → List ℕ
+denied_text rules against other = codes " denied=" ++ rule_name rules against ++ codes " other=" ++ asked_text other
+
 abbrev pub unsure_words : List ℕ
 unsure_words = codes "it wasn't found whether another passed call is denied if other bytes stand in its memory"
 
@@ -128,8 +137,7 @@ abbrev pub fault_words : List Rule → Fault → List ℕ
 fault_words rules (Refused error cure) = cure
 fault_words rules (Judged place judgement) = judgement_words rules place judgement
 fault_words rules (Granted hint place by call) = hint_words hint ++ codes " by=" ++ rule_name rules by ++ codes " call=" ++ asked_text call
-fault_words rules (Passed place by call against other) = passed_front ++ rule_name rules by ++ codes " call=" ++ asked_text call
-    ++ codes " denied=" ++ rule_name rules against ++ codes " other=" ++ asked_text other
+fault_words rules (Passed place by call against other) = passed_text rules by call ++ denied_text rules against other
 fault_words rules (Unsure place) = unsure_words
 fault_words rules (Noted note place cure) = cure
 fault_words rules (NoEffect place front) = no_effect_front ++ front

@@ -43,8 +43,11 @@ denies (Inject src at) = false
 abbrev pub IsDecided : (Verdict → Bool) → List Rule → Request → ℕ → Type 0
 IsDecided test rules q place = ((decide rules q).0 ≡ place) × (test (decide rules q).1 ≡ true)
 
--- the first rule passes the call, and the second one denies the other call, which differs in its texts alone
+-- a container can make both calls, of which the second one differs in its texts alone: the first rule passes the first one, and the
+-- second rule denies the other
 pub record IsOpen (rules : List Rule) (call : Request) (by : ℕ) (other : Request) (against : ℕ) : Type 0 where
+  pub call_made : IsCall call
+  pub other_made : IsCall other
   pub registers : HaveSameRegisters call other
   pub passed : IsDecided passes rules call by
   pub denied : IsDecided denies rules other against
@@ -52,7 +55,7 @@ pub record IsOpen (rules : List Rule) (call : Request) (by : ℕ) (other : Reque
 -- the rule passes a call of which other texts would be denied
 abbrev pub PassesByMemory : List Rule → ℕ → Type 0
 PassesByMemory rules by =
-    (call : Request) × (other : Request) × (against : ℕ) × IsCall call × IsCall other × IsOpen rules call by other against
+    (call : Request) × (other : Request) × (against : ℕ) × IsOpen rules call by other against
 
 -- ---- how it is found: by rules that deny whatever is denied for some texts
 

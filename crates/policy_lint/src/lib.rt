@@ -29,6 +29,7 @@ pub mod judgement;
 mod judging;
 mod lines;
 mod linting;
+mod made_calls;
 mod nearest;
 mod notes;
 mod other_texts;

@@ -4,7 +4,7 @@ ghost use Rattle.std.specs.Prelude.{◌≡◌, ◌++◌, ◌||◌, OnOk, IfOk, c
 ghost use Rattle.std.specs.List.{flat_map, list_all};
 ghost use Rattle.policy_lint.specs.declared.finding.Finding.{Finding as AnyFinding};
 ghost use Rattle.hist_model.specs.Decisions.{rule_name};
-ghost use Rattle.policy_lint.specs.Lines.{is_aside, passed_front, unsure_words};
+ghost use Rattle.policy_lint.specs.Lines.{denied_text, is_aside, passed_front, passed_text, unsure_words};
 ghost use Rattle.policy_lint.specs.Lines.{ending_of, fault_place, fault_word, fault_words, is_undecided, judgement_front, judgement_names, judgement_word, judgement_words, no_effect_front};
 ghost use Rattle.policy_explain.specs.Asked.{asked_text};
 ghost use Rattle.policy_lint.specs.Lines.{hint_word, hint_words, note_word};
@@ -244,28 +244,36 @@ fn passed_front() -> &'static str
     "this passes a call that is denied if other bytes stand in its memory by="
 }
 
-/// Adds that a rule passes a call of which other texts would be denied, with both calls.
-fn push_passed(
+/// Adds the rule that denies the other call, and that call.
+fn push_denied(
+    alloc: Global,
+    line: &mut LineBuffer,
+    rules: &[Rule],
+    against: usize,
+    other: &Request,
+) -> Result<(), NoMemory>
+    ensures { OnOk result (line.new ≡ line.old ++ denied_text rules.now against other.now) }
+{
+    line.push(" denied=")?;
+    push_name(line, rules, against)?;
+    line.push(" other=")?;
+    push_asked(alloc, line, other)
+}
+
+/// Adds that a rule passes a call, with the call.
+fn push_by(
     alloc: Global,
     line: &mut LineBuffer,
     rules: &[Rule],
     by: usize,
     call: &Request,
-    against: usize,
-    other: &Request,
 ) -> Result<(), NoMemory>
-    ensures { OnOk result (line.new ≡ line.old
-        ++ (passed_front ++ rule_name rules.now by ++ codes " call=" ++ asked_text call.now
-        ++ codes " denied=" ++ rule_name rules.now against ++ codes " other=" ++ asked_text other.now)) }
+    ensures { OnOk result (line.new ≡ line.old ++ passed_text rules.now by call.now) }
 {
     line.push(passed_front())?;
     push_name(line, rules, by)?;
     line.push(" call=")?;
-    push_asked(alloc, line, call)?;
-    line.push(" denied=")?;
-    push_name(line, rules, against)?;
-    line.push(" other=")?;
-    push_asked(alloc, line, other)
+    push_asked(alloc, line, call)
 }
 
 /// What is said where this wasn't found out.
@@ -309,7 +317,10 @@ fn push_words(
             against,
             other,
             ..
-        } => push_passed(alloc, line, rules, *by, call, *against, other),
+        } => {
+            push_by(alloc, line, rules, *by, call)?;
+            push_denied(alloc, line, rules, *against, other)
+        }
         Fault::Unsure { .. } => line.push(unsure_words()),
         Fault::NoEffect { front, .. } => push_no_effect(line, front),
     }

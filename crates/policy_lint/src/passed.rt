@@ -12,6 +12,7 @@ use crate::candidates::{is_of_lxd, key_of};
 use crate::finding::{Fault, Finding};
 use crate::hints::placed;
 use crate::judging::looked;
+use crate::made_calls::is_call;
 use crate::other_texts::{Pairs, pairs_of};
 use crate::own::own_number;
 use crate::positions::Position;
@@ -85,6 +86,9 @@ fn have_same_registers(call: &Request, other: &Request) -> bool
 fn denied_beside(policy: &Policy, by: usize, call: &Request, other: &Request) -> Option<usize>
     ensures { IfSome result (λ against. IsOpen policy.now.rules call.now by other.now against) }
 {
+    if !is_call(call) || !is_call(other) {
+        return None;
+    }
     if !have_same_registers(call, other) {
         return None;
     }
