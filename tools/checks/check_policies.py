@@ -220,10 +220,13 @@ def linted(asked: Any, data: bytes, own: int) -> None:
 
 def passed_told(asked, rules, lines):
     """Checks which rules pass calls that are denied for other texts, and the two calls of each."""
-    wanted = {rules[place].name: {rules[it].name for it in denying} for place, denying in passing(rules).items()}
+    found_here = passing(rules)
+    names, wanted = sorted(rules[place].name for place in found_here), {}
+    for place, denying in found_here.items():
+        wanted.setdefault(rules[place].name, set()).update(rules[it].name for it in denying)
     told = [it for it in map(PASSED.fullmatch, lines) if it]
     found, is_unsure = sorted(it["by"] for it in told), any(UNSURE in line for line in lines)
-    need(found == sorted(wanted) or (is_unsure and set(found) <= set(wanted) and len(set(found)) == len(found)), f"lint: {sorted(wanted)} pass by memory, and it says {found}")
+    need(found == names or (is_unsure and not Counter(found) - Counter(names)), f"lint: {names} pass by memory, and it says {found}")
     for it in told:
         need(it["denied"] in wanted[it["by"]], f"lint: {it[0]!r}: that rule denies no such call")
         pairs_of_calls = [(call, other) for call in requests_of(it["call"]) for other in requests_of(it["other"]) if registers_of(call) == registers_of(other)]
