@@ -272,7 +272,7 @@ fn has_denial(rules: &[Rule]) -> bool
 }
 
 /// The rules that pass calls of which other texts would be denied.
-#[tactic(auto, using(crate::proofs::Said::nothing_said, crate::proofs::Passing::nothing_denied, crate::proofs::Passing::all_told))]
+#[tactic(auto, using(crate::proofs::Said::nothing_said))]
 pub fn find_passed(
     alloc: Global,
     bytes: &[u8],
@@ -290,8 +290,9 @@ pub fn find_passed(
     let found = looked(alloc, rules, any.as_slice())?;
     let classes = found.classes.items();
     let mut findings = find_shown(alloc, bytes, scanned, policy, any.as_slice(), classes)?;
-    if !found.whole || !are_heeded(rules, any.as_slice(), findings.as_slice(), classes) {
-        push_unsure(alloc, bytes, scanned, &mut findings)?;
+    if found.whole && are_heeded(rules, any.as_slice(), findings.as_slice(), classes) {
+        return Ok(findings);
     }
+    push_unsure(alloc, bytes, scanned, &mut findings)?;
     Ok(findings)
 }
