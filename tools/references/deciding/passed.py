@@ -64,6 +64,12 @@ def passing(rules: List[Rule]) -> Dict[int, Set[int]]:
     return found
 
 
+def registers_of(request: Any) -> Tuple[Any, int]:
+    """A call without its texts, and the length of an attribute's value."""
+    texts = {name_in(request, field): b"" for field in TEXTS if hasattr(request, name_in(request, field))}
+    return request._replace(**texts), len(getattr(request, "value", b""))
+
+
 # ---- of one call
 
 
